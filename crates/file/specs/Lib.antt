@@ -1,0 +1,4 @@
+pub mod Entered
+pub mod File
+pub mod Layout
+pub mod Tables
