@@ -1,10 +1,11 @@
-// Says what the table file in the folder at hand holds, or why and where it is refused.
+// Says what the table file in the folder at hand holds, or why and where it is refused; and what numbers become in counts.
 use fault::Fault;
 use fault::FaultDisplay;
 use file::layout::Cell;
 use file::layout::Table;
 use file::tables::Tables;
 use file::tables::read;
+use std::env;
 use std::fs::File;
 use std::io;
 use std::io::ErrorKind;
@@ -14,9 +15,11 @@ use std::rt::Files;
 mod survey;
 
 use survey::Extremes;
+use survey::entry_of;
 use survey::letter;
 use survey::reason;
 use survey::refused_cell;
+use survey::table_of;
 use survey::value_at;
 
 const NAME: &str = "tables.sdt";
@@ -108,10 +111,44 @@ fn show_refusal(rt: &LibcRuntime, bytes: &[u8], fault: Fault) -> io::Result<()> 
     }
 }
 
-fn main(rt: LibcRuntime) -> io::Result<()> {
-    let bytes = bytes_of(&rt)?;
+fn show_file(rt: &LibcRuntime) -> io::Result<()> {
+    let bytes = bytes_of(rt)?;
     match read(&bytes) {
-        Ok(tables) => show(&rt, &tables),
-        Err(fault) => show_refusal(&rt, &bytes, fault),
+        Ok(tables) => show(rt, &tables),
+        Err(fault) => show_refusal(rt, &bytes, fault),
     }
+}
+
+// What the quantiser makes of a number for a table.
+fn show_counts(rt: &LibcRuntime, table: Table, text: &str) -> io::Result<()> {
+    let name = letter(table);
+    let Some(entry) = entry_of(text) else {
+        return println!(rt, "{text} for {name}: not a number");
+    };
+    match entry.quantise(table) {
+        Ok(counts) => println!(rt, "{text} for {name}: {counts} counts"),
+        Err(fault) => {
+            let why = reason(fault.number);
+            println!(rt, "{text} for {name}: {fault}: {why}")
+        }
+    }
+}
+
+// Shows the file, and then what becomes of each number that is given behind a table's letter.
+fn main(rt: LibcRuntime) -> io::Result<()> {
+    show_file(&rt)?;
+    let mut table = None;
+    for word in env::args(&rt)?.skip(1) {
+        match table_of(word.as_str()) {
+            Some(named) => table = Some(named),
+            None => match table {
+                Some(named) => show_counts(&rt, named, word.as_str())?,
+                None => {
+                    let text = word.as_str();
+                    println!(rt, "{text}: name a table first, one of w g u p t v")?;
+                }
+            },
+        }
+    }
+    Ok(())
 }

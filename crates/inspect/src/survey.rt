@@ -14,6 +14,7 @@ use file::horizon::Horizon;
 use file::layout::Cell;
 use file::layout::Table;
 use file::layout::cell_at_offset;
+use quantiser::Entry;
 
 // The least and the greatest of some entries.
 #[derive(Clone, Copy)]
@@ -85,7 +86,34 @@ pub(crate) fn letter(table: Table) -> &'static str {
     }
 }
 
-// What a refusal of the file layer means.
+// The table that an argument names.
+pub(crate) fn table_of(word: &str) -> Option<Table> {
+    match word {
+        "w" => Some(Table::Weight),
+        "g" => Some(Table::Gamma),
+        "u" => Some(Table::Upsilon),
+        "p" => Some(Table::Unconstrained),
+        "t" => Some(Table::Target),
+        "v" => Some(Table::Generator),
+        _ => None,
+    }
+}
+
+// The entry that an argument writes: whole counts behind a '#', or else a real number of units.
+pub(crate) fn entry_of(text: &str) -> Option<Entry> {
+    match text.strip_prefix("#") {
+        Some(counts) => match counts.parse::<i64>() {
+            Ok(n) => Some(Entry::Counts(n)),
+            Err(_) => None,
+        },
+        None => match text.parse::<f64>() {
+            Ok(x) => Some(Entry::Real(x)),
+            Err(_) => None,
+        },
+    }
+}
+
+// What a refusal of the file or the quantiser means.
 pub(crate) fn reason(number: u8) -> &'static str {
     match number {
         1 => "fewer than 6 bytes, so there is no whole header",
@@ -95,6 +123,8 @@ pub(crate) fn reason(number: u8) -> &'static str {
         5 => "the length is not that of the horizon's tables",
         6 => "an entry is outside its table's limits",
         7 => "an entry on the diagonal of V is under 1",
+        31 => "not a finite number",
+        32 => "outside the table's limits",
         _ => "a refusal of another kind",
     }
 }

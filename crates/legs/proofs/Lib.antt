@@ -1,0 +1,6 @@
+pub mod Bounds
+pub mod ListedLaws
+pub mod Lowest
+pub mod Masks
+pub mod Orders
+pub mod Reaching

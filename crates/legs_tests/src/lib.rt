@@ -1,0 +1,3 @@
+// Tests of legs and measures.
+#[cfg(test)]
+mod tests;
