@@ -1,15 +1,15 @@
 -- What `floor` and then the cast make of a float whose value is ±a / b.
-use mathlib.Core.Path.{_≡_, refl, sym, ap, subst, _∙_}
+use mathlib.Core.Path.{_≡_, sym, ap, _∙_}
 use mathlib.Core.Bool.{Bool, true, false, cond}
-use Prim.Native.Nat.{ℕ, zero, suc, _+_, _-_, _*_, _/_, _^_, _≤_, _<_, min}
+use Prim.Native.Nat.{ℕ, _+_, _-_, _*_, _/_, _^_, _≤_, _<_, min}
 use native.Mathlib.Nat.{mul-comm, mul-one, add-mul, lt-of-mul-lt-mul-right, div-mul-le-self, lt-div-mul-add, mul-div-cancel}
 use native.Mathlib.Omega.{arith}
-use lib.IntN.{ℤ, pos, negsuc, negℤ}
+use lib.IntN.{ℤ, pos, negℤ}
 use lib.Ieee.{Float, nan, inf, fin, binary64, up, down, round, toSigned}
 use lib.Ieee.Back.{round-whole}
 use lib.Ieee.Exact.{HasValue}
 use lib.Ieee.Fits.{down-pos}
-use Rattle.std.specs.Floats.{floor, wholeBy, cut, raised}
+use Rattle.std.specs.Floats.{floor, wholeBy, raised}
 use Rattle.quantiser.specs.Counts.{signed}
 use Rattle.quantiser.proofs.Ratios.{above, at-least, at-most, below}
 

@@ -1,5 +1,5 @@
 -- What the floats on the way come to, and what is answered at each exit.
-use mathlib.Core.Path.{_≡_, refl, sym, ap, subst, _∙_}
+use mathlib.Core.Path.{_≡_, sym, subst, _∙_}
 use mathlib.Core.Bool.{Bool, true, false}
 use Prim.Native.Nat.{ℕ, _*_, _≤_, _<_}
 use native.Mathlib.Omega.{arith}
@@ -12,13 +12,13 @@ use Rattle.std.specs.Floats.{finite, floor, withSign}
 use Rattle.std.specs.Numbers.{divEuclid}
 use Rattle.std.specs.declared.option.Option.{Option}
 use Rattle.std.specs.declared.result.Result.{Result}
-use Rattle.std.specs.declared.result.Result.the-variants.{Ok, Err}
+use Rattle.std.specs.declared.result.Result.the-variants.{Err}
 use Rattle.std.proofs.shelf.Signed.{ints}
 use Rattle.fault.specs.Refusals.{Answers, first-of, unless}
 use Rattle.fault.specs.declared.Fault.{Fault}
 use Rattle.file.specs.Layout.{limited}
 use Rattle.file.specs.declared.layout.Table.{Table}
-use Rattle.quantiser.specs.Counts.{Nearest, nearest, signed, twice-counts}
+use Rattle.quantiser.specs.Counts.{nearest, signed, twice-counts}
 use Rattle.quantiser.specs.Quantised.{Counts-are-meant, counts, quantise-refusal, refusal}
 use Rattle.quantiser.specs.declared.Entry.the-variants.{Real}
 use Rattle.quantiser.proofs.Exact.{four-thousand, twice-4096, two}

@@ -1,0 +1,4 @@
+pub mod Sums
+pub mod Equations
+pub mod Inputs
+pub mod Solved

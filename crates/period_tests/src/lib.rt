@@ -1,0 +1,3 @@
+// Tests of one period's numbers, rounding and refusals.
+#[cfg(test)]
+mod tests;
