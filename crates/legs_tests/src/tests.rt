@@ -1,4 +1,6 @@
 // Legs and measures against tables written out by hand.
+use fault::Fault;
+use fault::FaultDebug;
 use legs::barred::Barred;
 use legs::barred::BarredLeg;
 use legs::leg::Leg;
@@ -14,8 +16,6 @@ use legs::squared::Squared;
 use legs::squared::SquaredMeasure;
 use legs::stepped::Stepped;
 use legs::stepped::SteppedLeg;
-use fault::Fault;
-use fault::FaultDebug;
 use std::test::*;
 
 // The positions that a leg lets one move to, as a mask.
