@@ -1,0 +1,11 @@
+pub mod Limits
+pub mod Counts
+pub mod Sequences
+pub mod Guesses
+pub mod Answers
+pub mod Promise
+pub mod Computed
+pub mod Theorems
+pub mod Tasks
+pub mod Outcome
+pub mod Worked
