@@ -1,0 +1,4 @@
+pub mod Logbook
+pub mod Problems
+pub mod Law
+pub mod View
