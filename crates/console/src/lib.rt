@@ -1,4 +1,6 @@
 // The console: lines of text to calls on a controller, and what came of them to lines of text.
+#![tactic(auto)]
+
 mod answer;
 mod calls;
 mod numbers;

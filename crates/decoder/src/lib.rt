@@ -1,4 +1,6 @@
 // The decoder: the cheapest sequence of switch positions, by a sphere search that counts the nodes it visits.
+#![tactic(auto)]
+
 ghost use Rattle.decoder.specs.Outcome.{AsComputed, AsDefined, AsPromised};
 ghost use Rattle.decoder.specs.Tasks.{entries_of, posed, ZeroPast};
 

@@ -1,5 +1,5 @@
 -- The words in which every call's refusals are stated: one definition says which refusal a call owes, if any.
-use Rattle.std.specs.Prelude.{◌≡◌, ℕ, zero, suc, Bool, cond, not, Some, None, Ok, Err, Option, Result}
+use Rattle.std.specs.Prelude.{◌≡◌, ℕ, zero, suc, Bool, cond, Some, None, Ok, Err, Option, Result}
 use Rattle.fault.specs.declared.Fault.{Fault}
 
 -- the first of two, where there is one, and else the second

@@ -1,4 +1,6 @@
 // Refusals: which layer turned something down, by which rule, and where.
+#![tactic(auto)]
+
 ghost use Rattle.std.specs.Prelude.{◌≡◌, Some};
 ghost use Rattle.fault.specs.Printed.{layer_word, refusal_line};
 

@@ -1,4 +1,6 @@
 // Tests of the table file against sizes, offsets and limits that are written down here once more.
+#![tactic(auto)]
+
 #[cfg(test)]
 mod tests {
     use fault::{Fault, Layer};

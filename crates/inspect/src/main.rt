@@ -1,4 +1,6 @@
 // Says what the table file in the folder at hand holds, or why and where it is refused; and what numbers become in counts.
+#![tactic(auto)]
+
 use fault::Fault;
 use file::layout::{Cell, Table};
 use file::tables::{Tables, read};

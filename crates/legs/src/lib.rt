@@ -1,4 +1,6 @@
 // Legs, which say which switch positions there are and which moves between them, and measures, which say what a sequence costs.
+#![tactic(auto)]
+
 pub mod barred;
 pub mod leg;
 pub mod limits;

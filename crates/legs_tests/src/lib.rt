@@ -1,3 +1,5 @@
 // Tests of legs and measures.
+#![tactic(auto)]
+
 #[cfg(test)]
 mod tests;

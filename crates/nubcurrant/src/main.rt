@@ -1,4 +1,6 @@
 // The console as a program: it loads `tables.sdt`, and answers the lines of standard input.
+#![tactic(auto)]
+
 use console::state::Console;
 use std::fs::File;
 use std::io;

@@ -1,4 +1,6 @@
 // One period's equations, in whole numbers.
+#![tactic(auto)]
+
 ghost use Rattle.fault.specs.Refusals.{Answers};
 ghost use Rattle.file.specs.Tables.{data_of};
 ghost use Rattle.period.specs.Equations.{given};

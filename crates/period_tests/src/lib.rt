@@ -1,3 +1,5 @@
 // Tests of one period's numbers, rounding and refusals.
+#![tactic(auto)]
+
 #[cfg(test)]
 mod tests;

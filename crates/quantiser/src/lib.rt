@@ -1,4 +1,6 @@
 // Table entries as an engineer has them, turned into the whole counts that a table file holds.
+#![tactic(auto)]
+
 ghost use Rattle.std.specs.Prelude.{◌≡◌};
 ghost use Rattle.fault.specs.Refusals.{Answers};
 ghost use Rattle.quantiser.specs.Quantised.{CountsAreMeant, counts, quantise_refusal};

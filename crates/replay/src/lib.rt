@@ -1,4 +1,6 @@
 // Recordings, replayed: a list of calls on a controller from its first day.
+#![tactic(auto)]
+
 ghost use Rattle.std.specs.Prelude.{◌≡◌, true, false, [], ◌∷◌, IfOk};
 ghost use Rattle.controller.specs.Law.{Run, Stands};
 ghost use Rattle.controller.specs.Problems.{built};

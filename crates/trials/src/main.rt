@@ -1,4 +1,6 @@
 // Tries the decoder against a full enumeration by the definitions, over many small problems.
+#![tactic(auto)]
+
 mod decoding;
 mod enumeration;
 mod leg;
