@@ -7,7 +7,7 @@ use Rattle.decoder.proofs.guesses.rounded_guess.Goals as goal
 pub loop-j-preserved : goal.loop-j-preserved
 loop-j-preserved g c =
     let h : c.loop-j.j < length c.loop-j.guess = omega (arith, c.loop-j.invariant.1) in (
-      rounded_step (unpriced (g.L.Phases.models c.args.legs.now) c.args.task.now) c.loop-j.j c.loop-j.guess c.moved-from.result _ c.loop-j.invariant.0 h c.moved-from.ensures c.nearest.ensures,
+      rounded_step (unpriced (g.L.Phases.models c.args.legs.now) c.args.task.now) c.loop-j.j c.loop-j.guess c.moved_from.result _ c.loop-j.invariant.0 h c.moved_from.ensures c.nearest.ensures,
       simp length-set c.loop-j.invariant.1,
-      clear_set (entries_of c.args.task.now) c.loop-j.guess c.loop-j.j _ (omega (arith, c.entries-of-j-end.ensures.is)) c.loop-j.invariant.2,
+      clear_set (entries_of c.args.task.now) c.loop-j.guess c.loop-j.j _ (omega (arith, c.entries_of-j-end.ensures.is)) c.loop-j.invariant.2,
     )

@@ -16,8 +16,8 @@ module _ (g : given.Over) (c : goal.After-term-left g) where
   small : Small so_far
   small = left_over_small (bounds c.args.task.now (g.met.L.Phases.lawful c.args.legs.now)) c.args.at.now c.args.j c.loop-k.k (omega (arith, c.requires))
 
-pub overflow-sub-left : goal.overflow-sub-left
-overflow-sub-left g c = sub_fits _ (so_far g c) c.term-left.result c.loop-k.invariant (small g c) c.term-left.ensures.low
+pub overflow_sub-left : goal.overflow_sub-left
+overflow_sub-left g c = sub_fits _ (so_far g c) c.term-left.result c.loop-k.invariant (small g c) c.term-left.ensures.low
 
 pub loop-k-preserved : goal.loop-k-preserved
 loop-k-preserved g c = left_over_more (bounds c.args.task.now (g.met.L.Phases.lawful c.args.legs.now)) c.args.at.now c.args.j c.loop-k.k _ (sub_is _ (so_far g c) c.term-left.result c.loop-k.invariant (small g c) c.term-left.ensures.low ∙ ap (λ x. so_far g c -ℤ x) c.term-left.ensures.is)

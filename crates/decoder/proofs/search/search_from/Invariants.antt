@@ -5,13 +5,13 @@ use Rattle.decoder.proofs.Searching.{Stands}
 use Rattle.decoder.proofs.search.search_from.Given as goal
 
 abbrev pub invariant-back : goal.invariant-back
-invariant-back g l = Stands (posed (g.L.Phases.models l.legs) (g.M.Measure.meaning l.measure) l.task) l.limit l.start l.j l.at l.costs l.left l.count l.best l.best-cost
+invariant-back g l = Stands (posed (g.L.Phases.models l.legs) (g.M.Measure.meaning l.measure) l.task) l.limit l.start l.j l.at l.costs l.left l.count l.best l.best_cost
 
 abbrev pub decreases-back : goal.decreases-back
 decreases-back g l = suc most_positions * l.j + (most_positions - get_or l.at l.j 0)
 
 abbrev pub invariant-search : goal.invariant-search
-invariant-search g l = Stands (posed (g.L.Phases.models l.legs) (g.M.Measure.meaning l.measure) l.task) l.limit l.start l.j l.at l.costs l.left l.count l.best l.best-cost
+invariant-search g l = Stands (posed (g.L.Phases.models l.legs) (g.M.Measure.meaning l.measure) l.task) l.limit l.start l.j l.at l.costs l.left l.count l.best l.best_cost
 
 abbrev pub decreases-search : goal.decreases-search
 decreases-search g l = l.limit - l.count

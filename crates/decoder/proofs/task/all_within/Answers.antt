@@ -5,15 +5,15 @@ use Rattle.decoder.specs.Limits.{every, within}
 use Rattle.decoder.proofs.Small.{every_more, every_fails, every_within, is_within, is_past}
 use Rattle.decoder.proofs.task.all_within.Goals as goal
 
-pub returns-then-unsigned-abs-most : goal.returns-then-unsigned-abs-most
-returns-then-unsigned-abs-most c =
+pub returns-then-unsigned_abs-most : goal.returns-then-unsigned_abs-most
+returns-then-unsigned_abs-most c =
     let z : to_z w32 (of_z w32 (get_or c.args.xs.now c.loop-x.x-index (pos 0))) ≡ get_or c.args.xs.now c.loop-x.x-index (pos 0) = search rules in
-    record { is = sym (every_fails (within c.args.most) c.args.xs.now c.loop-x.x-index (pos 0) c.loop-x-test.true (is_past c.args.most (get_or c.args.xs.now c.loop-x.x-index (pos 0)) c.unsigned-abs.result (c.unsigned-abs.ensures.value ∙ ap nat_abs z) c.if-unsigned-abs-most.true)); each = λ h. absurd (false≢true h) }
+    record { is = sym (every_fails (within c.args.most) c.args.xs.now c.loop-x.x-index (pos 0) c.loop-x-test.true (is_past c.args.most (get_or c.args.xs.now c.loop-x.x-index (pos 0)) c.unsigned_abs.result (c.unsigned_abs.ensures.value ∙ ap nat_abs z) c.if-unsigned_abs-most.true)); each = λ h. absurd (false≢true h) }
 
 pub loop-x-preserved : goal.loop-x-preserved
 loop-x-preserved c =
     let z : to_z w32 (of_z w32 (get_or c.args.xs.now c.loop-x.x-index (pos 0))) ≡ get_or c.args.xs.now c.loop-x.x-index (pos 0) = search rules in
-    every_more (within c.args.most) c.args.xs.now c.loop-x.x-index (pos 0) c.loop-x-test.true c.loop-x.invariant (is_within c.args.most (get_or c.args.xs.now c.loop-x.x-index (pos 0)) c.unsigned-abs.result (c.unsigned-abs.ensures.value ∙ ap nat_abs z) c.if-unsigned-abs-most.false)
+    every_more (within c.args.most) c.args.xs.now c.loop-x.x-index (pos 0) c.loop-x-test.true c.loop-x.invariant (is_within c.args.most (get_or c.args.xs.now c.loop-x.x-index (pos 0)) c.unsigned_abs.result (c.unsigned_abs.ensures.value ∙ ap nat_abs z) c.if-unsigned_abs-most.false)
 
 pub returns : goal.returns
 returns c =

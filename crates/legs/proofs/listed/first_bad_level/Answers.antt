@@ -5,5 +5,5 @@ use Rattle.legs.proofs.listed.first_bad_level.Goals as goal
 pub loop-position-preserved : goal.loop-position-preserved
 loop-position-preserved c = search (rules, lowest_more)
 
-pub returns-then-not-level-stands : goal.returns-then-not-level-stands
-returns-then-not-level-stands c = sym (lowest_found _ c.loop-position.position _ c.loop-position.invariant (sym c.level_stands.ensures ∙ c.if-not-level-stands.true) c.loop-position-test.true)
+pub returns-then-not-level_stands : goal.returns-then-not-level_stands
+returns-then-not-level_stands c = sym (lowest_found _ c.loop-position.position _ c.loop-position.invariant (sym c.level_stands.ensures ∙ c.if-not-level_stands.true) c.loop-position-test.true)

@@ -5,5 +5,5 @@ use Rattle.legs.proofs.listed.first_bad_mask.Goals as goal
 pub loop-position-preserved : goal.loop-position-preserved
 loop-position-preserved c = search (rules, lowest_more)
 
-pub returns-then-not-mask-stands : goal.returns-then-not-mask-stands
-returns-then-not-mask-stands c = sym (lowest_found _ c.loop-position.position _ c.loop-position.invariant (sym c.mask_stands.ensures ∙ c.if-not-mask-stands.true) c.loop-position-test.true)
+pub returns-then-not-mask_stands : goal.returns-then-not-mask_stands
+returns-then-not-mask_stands c = sym (lowest_found _ c.loop-position.position _ c.loop-position.invariant (sym c.mask_stands.ensures ∙ c.if-not-mask_stands.true) c.loop-position-test.true)

@@ -2,11 +2,11 @@ use Rattle.std.proofs.Common.{arith, rules}
 use Rattle.file.proofs.Inside.{row_inside}
 use Rattle.file.proofs.layout.Table.span.Goals as goal
 
-pub overflow-add-start : goal.overflow-add-start
-overflow-add-start c = let h = c.args.horizon in omega (arith, row_inside h.stages c.args.self c.args.row h.some h.few c.requires)
+pub overflow_add-start : goal.overflow_add-start
+overflow_add-start c = let h = c.args.horizon in omega (arith, row_inside h.stages c.args.self c.args.row h.some h.few c.requires)
 
-pub overflow-add-end : goal.overflow-add-end
-overflow-add-end c = let h = c.args.horizon in omega (arith, row_inside h.stages c.args.self c.args.row h.some h.few c.requires)
+pub overflow_add-end : goal.overflow_add-end
+overflow_add-end c = let h = c.args.horizon in omega (arith, row_inside h.stages c.args.self c.args.row h.some h.few c.requires)
 
 pub returns : goal.returns
 returns c =

@@ -9,8 +9,8 @@ loop-k-preserved c =
     let t = c.args.self.now in
     let h = t.horizon in
     let inside : c.loop-k.k < length t.entries = omega (arith, count_bound h.stages h.some h.few, t.sized) in
-    word_more h.stages t.entries c.loop-k.k _ c.put-header.new.out c.loop-k.out c.put-word.new.out inside c.loop-k.invariant c.put-word.ensures
+    word_more h.stages t.entries c.loop-k.k _ c.put_header.new.out c.loop-k.out c.put_word.new.out inside c.loop-k.invariant c.put_word.ensures
     (to_z-of_z w32 (get_or t.entries c.loop-k.k (pos 0)) (search rules))
 
 pub returns : goal.returns
-returns c = whole c.args.self.now c.args.out.now c.put-header.new.out c.loop-k.out c.loop-k.k (omega arith) c.put-header.ensures c.loop-k.invariant
+returns c = whole c.args.self.now c.args.out.now c.put_header.new.out c.loop-k.out c.loop-k.k (omega arith) c.put_header.ensures c.loop-k.invariant

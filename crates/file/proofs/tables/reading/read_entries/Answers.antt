@@ -7,11 +7,11 @@ use Rattle.file.specs.Layout.{CellOf, count}
 use Rattle.file.proofs.Reading.{broken, complete, reading_more}
 use Rattle.file.proofs.tables.reading.read_entries.Goals as goal
 
-pub returns-in-err-entries : goal.returns-in-err-entries
-returns-in-err-entries c =
-    let p = err_from_is_err_and c.from-residual.result c.from-residual.ensures.1 in
+pub returns-in_err-entries : goal.returns-in_err-entries
+returns-in_err-entries c =
+    let p = err_from_is_err_and c.from_residual.result c.from_residual.ensures.1 in
     rw (p.1, p.2)
-    (broken _ _ c.args.bytes.now c.args.horizon.stages c.loop-k.entries c.loop-k.cell c.loop-k.k _ (omega arith) c.loop-k.invariant c.in-err-entries.ensures)
+    (broken _ _ c.args.bytes.now c.args.horizon.stages c.loop-k.entries c.loop-k.cell c.loop-k.k _ (omega arith) c.loop-k.invariant c.in_err-entries.ensures)
 
 pub loop-k-preserved : goal.loop-k-preserved
 loop-k-preserved c =
@@ -20,8 +20,8 @@ loop-k-preserved c =
     let n = c.args.horizon.stages in
     let inside : k < count n = omega arith in
     let here : CellOf n k c.loop-k.cell = c.loop-k.invariant.here inside in
-    let got = granted (entry_refusal c.loop-k.cell (offset k) (word b (offset k))) (λ z. z ≡ word b (offset k)) c.in-ok-entries.field-0 c.in-ok-entries.ensures in
-    reading_more b n c.loop-k.entries c.loop-k.cell c.next-cell.result k _ inside (omega arith) c.loop-k.invariant got.0 (to_z-of_z w32 c.in-ok-entries.field-0 (search rules) ∙ got.1)
+    let got = granted (entry_refusal c.loop-k.cell (offset k) (word b (offset k))) (λ z. z ≡ word b (offset k)) c.in_ok-entries.field-0 c.in_ok-entries.ensures in
+    reading_more b n c.loop-k.entries c.loop-k.cell c.next-cell.result k _ inside (omega arith) c.loop-k.invariant got.0 (to_z-of_z w32 c.in_ok-entries.field-0 (search rules) ∙ got.1)
     (λ more. subst (λ i. CellOf n (i + 1) c.next-cell.result) here.1 (c.next-cell.ensures (omega (arith, here.1))))
 
 pub returns : goal.returns

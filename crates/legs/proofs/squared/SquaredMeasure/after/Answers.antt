@@ -4,7 +4,7 @@ use Rattle.legs.proofs.Bounds.{square_small, squared_bound}
 use Rattle.legs.proofs.squared.SquaredMeasure.after.Goals as goal
 
 -- fourteen squares and one more stay far below 2 ^ 64
-pub overflow-add-result : goal.overflow-add-result
-overflow-add-result c =
-    let square = ap (λ x. x * x) (c.unsigned-abs-size.ensures.value ∙ ap nat_abs (to_z-of_z w64 c.args.difference c.ranges.difference)) in
+pub overflow_add-result : goal.overflow_add-result
+overflow_add-result c =
+    let square = ap (λ x. x * x) (c.unsigned_abs-size.ensures.value ∙ ap nat_abs (to_z-of_z w64 c.args.difference c.ranges.difference)) in
     record { fits = omega (arith, squared_bound 14 c.args.cost c.requires.reached, square_small c.args.difference c.requires.small, square) }
