@@ -13,8 +13,8 @@ thetas-thetas-requires c =
       levels = c.requires.levels_small;
     }
 
-pub row-products-requires : goal.row-products-requires
-row-products-requires c =
+pub row_products-requires : goal.row_products-requires
+row_products-requires c =
     let t = c.args.tables.now in
     record {
       rows = refl;
@@ -22,8 +22,8 @@ row-products-requires c =
       thetas = thetas_small (data_of t) (sound_data t) (given c.args.currents.now c.args.references.now c.args.levels.now) c.requires c.errors-errors.result c.errors-errors.ensures c.thetas-thetas.result c.thetas-thetas.ensures;
     }
 
-pub row-products-requires-2 : goal.row-products-requires-2
-row-products-requires-2 c =
+pub row_products-requires-2 : goal.row_products-requires-2
+row_products-requires-2 c =
     let t = c.args.tables.now in
     record {
       rows = refl;
@@ -34,4 +34,4 @@ row-products-requires-2 c =
 pub returns : goal.returns
 returns c =
     let t = c.args.tables.now in
-    all_solved (data_of t) (sound_data t) (given c.args.currents.now c.args.references.now c.args.levels.now) c.requires c.errors-errors.result c.errors-errors.ensures c.thetas-thetas.result c.thetas-thetas.ensures _ c.row-products.ensures c.row-products-2.ensures
+    all_solved (data_of t) (sound_data t) (given c.args.currents.now c.args.references.now c.args.levels.now) c.requires c.errors-errors.result c.errors-errors.ensures c.thetas-thetas.result c.thetas-thetas.ensures _ c.row_products.ensures c.row_products-2.ensures

@@ -6,17 +6,17 @@ use Rattle.period.proofs.Bounds.{difference_fits, difference_is}
 use Rattle.period.proofs.Steps.{free}
 use Rattle.period.proofs.equations.error.Goals as goal
 
-pub overflow-sub-result : goal.overflow-sub-result
-overflow-sub-result c =
+pub overflow_sub-result : goal.overflow_sub-result
+overflow_sub-result c =
     let t = c.args.tables.now in
     let y = get_or c.args.references.now c.args.r (pos 0) in
-    let f = free (data_of t) (sound_data t) c.args.currents.now c.row.result.now c.args.r c.rounded-dot.result c.row.ensures.value c.requires.row c.requires.currents c.rounded-dot.ensures in
-    difference_fits c.rounded-dot.result y f.1 (omega (arith, c.requires.references c.args.r))
+    let f = free (data_of t) (sound_data t) c.args.currents.now c.row.result.now c.args.r c.rounded_dot.result c.row.ensures.value c.requires.row c.requires.currents c.rounded_dot.ensures in
+    difference_fits c.rounded_dot.result y f.1 (omega (arith, c.requires.references c.args.r))
 
 pub returns : goal.returns
 unfolding error
 returns c =
     let t = c.args.tables.now in
     let y = get_or c.args.references.now c.args.r (pos 0) in
-    let f = free (data_of t) (sound_data t) c.args.currents.now c.row.result.now c.args.r c.rounded-dot.result c.row.ensures.value c.requires.row c.requires.currents c.rounded-dot.ensures in
-    difference_is c.rounded-dot.result y f.1 (omega (arith, c.requires.references c.args.r)) ∙ ap (λ z. z -ℤ y) f.0
+    let f = free (data_of t) (sound_data t) c.args.currents.now c.row.result.now c.args.r c.rounded_dot.result c.row.ensures.value c.requires.row c.requires.currents c.rounded_dot.ensures in
+    difference_is c.rounded_dot.result y f.1 (omega (arith, c.requires.references c.args.r)) ∙ ap (λ z. z -ℤ y) f.0

@@ -14,8 +14,8 @@ bounds-row-j c =
     let there : c.loop-r.r < 2 * d.horizon = omega arith in
     omega (arith, row_length d Upsilon c.loop-r.r c.row.result.now c.row.ensures.value there, c.requires)
 
-pub add-product-sum-requires : goal.add-product-sum-requires
-add-product-sum-requires c =
+pub add_product-sum-requires : goal.add_product-sum-requires
+add_product-sum-requires c =
     let d = data_of c.args.tables.now in
     let j = c.args.j in
     let a = get_or c.row.result.now j (pos 0) in
@@ -33,14 +33,14 @@ loop-r-preserved c =
     let r = c.loop-r.r in
     let j = c.args.j in
     let term : ℕ → ℤ = λ k. entry d Upsilon k j *ℤ get_or c.args.errors.now k (pos 0) in
-    let z = c.add-product-sum.result in
-    let fz : SFits w64 z = record { sfits = c.add-product-sum.type-inv } in
+    let z = c.add_product-sum.result in
+    let fz : SFits w64 z = record { sfits = c.add_product-sum.type_inv } in
     let read : to_z w64 (of_z w64 z) ≡ z = to_z-of_z w64 z fz in
     let fa : SFits w32 (get_or c.row.result.now j (pos 0)) = search rules in
     let fx : SFits w32 (get_or c.args.errors.now r (pos 0)) = search rules in
-    let is = simp to_z-of_z at c.add-product-sum.ensures.value in
+    let is = simp to_z-of_z at c.add_product-sum.ensures.value in
     let there : r < 2 * d.horizon = omega arith in
     let e = row_entry d Upsilon r c.row.result.now c.row.ensures.value there j c.requires in
     let sum = c.loop-r.invariant.0 in
     let more = sum_to_more term r in
-    (cc, within_as _ _ _ read (omega (arith, c.add-product-sum.ensures.bound (r * 2 ^ 51) c.loop-r.invariant.1)))
+    (cc, within_as _ _ _ read (omega (arith, c.add_product-sum.ensures.bound (r * 2 ^ 51) c.loop-r.invariant.1)))

@@ -13,13 +13,13 @@ term_is : (c : goal.After-rounded) → (c.rounded.result ≡ error_term (data_of
 unfolding error_term
 term_is c =
     let t = c.args.tables.now in
-    let f : SFits w64 c.error-sum.result = record { sfits = c.error-sum.type-inv } in
-    let is = c.rounded.ensures.value ∙ ap rounded (to_z-of_z w64 c.error-sum.result f ∙ c.error-sum.ensures) in
+    let f : SFits w64 c.error_sum.result = record { sfits = c.error_sum.type_inv } in
+    let is = c.rounded.ensures.value ∙ ap rounded (to_z-of_z w64 c.error_sum.result f ∙ c.error_sum.ensures) in
     let b = within_as _ _ _ is (error_term_within (data_of t) (sound_data t) (λ r. get_or c.args.errors.now r (pos 0)) c.args.j c.requires.row (λ r h. c.requires.errors r)) in
     (is, omega (arith, ints))
 
-pub overflow-cast-result : goal.overflow-cast-result
-overflow-cast-result c = let k = term_is c in omega (arith, ints, k.1)
+pub overflow_cast-result : goal.overflow_cast-result
+overflow_cast-result c = let k = term_is c in omega (arith, ints, k.1)
 
 pub returns : goal.returns
 returns c = let k = term_is c in narrowed c.rounded.result k.1 ∙ k.0

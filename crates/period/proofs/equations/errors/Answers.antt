@@ -12,7 +12,7 @@ loop-r-init c = filled_none 10 _
 pub loop-r-preserved : goal.loop-r-preserved
 loop-r-preserved c =
     let z = c.error.result in
-    let f : SFits w32 z = record { sfits = c.error.type-inv } in
+    let f : SFits w32 z = record { sfits = c.error.type_inv } in
     filled_more 10 c.loop-r.r _ c.loop-r.errors _ (omega (arith, c.horizon.result.few)) (rw (to_z-of_z w32 z f) c.error.ensures) c.loop-r.invariant
 
 pub returns : goal.returns

@@ -7,8 +7,8 @@ use Rattle.period.proofs.Limits.{limited_wide}
 use Rattle.period.proofs.Rows.{row_length, row_sum}
 use Rattle.period.proofs.equations.row_product.Goals as goal
 
-pub rounded-dot-requires : goal.rounded-dot-requires
-rounded-dot-requires c =
+pub rounded_dot-requires : goal.rounded_dot-requires
+rounded_dot-requires c =
     let t = c.args.tables.now in
     let few = t.horizon.few in
     let long : length c.row.result.now ≡ _ = row_length (data_of t) c.args.table c.args.j c.row.result.now c.row.ensures.value c.requires.row ∙ c.requires.columns in
@@ -23,5 +23,5 @@ pub returns : goal.returns
 unfolding row_product
 returns c =
     let t = c.args.tables.now in
-    to_z-of_z w32 c.rounded-dot.result (record { sfits = c.rounded-dot.type-inv }) ∙ c.rounded-dot.ensures
+    to_z-of_z w32 c.rounded_dot.result (record { sfits = c.rounded_dot.type_inv }) ∙ c.rounded_dot.ensures
     ∙ ap rounded (row_sum (data_of t) c.args.table c.args.j c.row.result.now c.row.ensures.value c.requires.row (λ k. get_or c.args.thetas.now k (pos 0)) _ c.requires.columns)

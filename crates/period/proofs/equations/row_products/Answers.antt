@@ -12,7 +12,7 @@ loop-j-init c = filled_none 15 _
 pub loop-j-preserved : goal.loop-j-preserved
 loop-j-preserved c =
     let z = c.row_product.result in
-    let f : SFits w32 z = record { sfits = c.row_product.type-inv } in
+    let f : SFits w32 z = record { sfits = c.row_product.type_inv } in
     filled_more 15 c.loop-j.j _ c.loop-j.products _ (omega (arith, c.horizon.result.few)) (rw (to_z-of_z w32 z f) c.row_product.ensures) c.loop-j.invariant
 
 pub returns : goal.returns

@@ -5,8 +5,8 @@ use Rattle.period.specs.Equations.{weight_term}
 use Rattle.period.proofs.Bounds.{level_product_fits, level_product_is, level_read}
 use Rattle.period.proofs.equations.weight_term.Goals as goal
 
-pub overflow-mul-result : goal.overflow-mul-result
-overflow-mul-result c =
+pub overflow_mul-result : goal.overflow_mul-result
+overflow_mul-result c =
     let u = level_read c.from.result (get_or c.args.levels.now c.args.j (pos 0)) (c.requires c.args.j) c.from.ensures in
     level_product_fits c.weight.result c.from.result (omega (arith, ints, c.weight.ensures.bound)) u.1
 

@@ -8,7 +8,7 @@ returns-in-None c =
     let i = c.args.currents.now in
     let y = c.args.references.now in
     let n = c.args.horizon.stages in
-    let none = sym c.first-outside-range.ensures ∙ c.in-None.is in
+    let none = sym c.first_outside_range.ensures ∙ c.in-None.is in
     let long : length y ≡ 2 * n = omega arith in
     record {
       answers = subst (λ o. Answers o (λ _. Unit {0}) (Ok tt)) (sym (nothing_refused i y none n long)) tt;

@@ -10,15 +10,15 @@ pub loop-place-preserved : goal.loop-place-preserved
 loop-place-preserved c =
     let v = c.in-Some.value.now in
     let f : SFits w32 v = search rules in
-    let size : c.unsigned-abs.result ≡ nat_abs v = c.unsigned-abs.ensures.value ∙ ap nat_abs (to_z-of_z w32 v f) in
+    let size : c.unsigned_abs.result ≡ nat_abs v = c.unsigned_abs.ensures.value ∙ ap nat_abs (to_z-of_z w32 v f) in
     let small : nat_abs v ≤ 8192 = omega arith in
     (search rules, search rules, one_more c.loop-place.invariant.2 _ c.in-Some.place c.in-Some.value c.in-Some.ensures.steps (le-leb (nat_abs v) 8192 small))
 
-pub returns-then-unsigned-abs-gt-GREATEST : goal.returns-then-unsigned-abs-gt-GREATEST
-returns-then-unsigned-abs-gt-GREATEST c =
+pub returns-then-unsigned_abs-gt-GREATEST : goal.returns-then-unsigned_abs-gt-GREATEST
+returns-then-unsigned_abs-gt-GREATEST c =
     let v = c.in-Some.value.now in
     let f : SFits w32 v = search rules in
-    let size : c.unsigned-abs.result ≡ nat_abs v = c.unsigned-abs.ensures.value ∙ ap nat_abs (to_z-of_z w32 v f) in
+    let size : c.unsigned_abs.result ≡ nat_abs v = c.unsigned_abs.ensures.value ∙ ap nat_abs (to_z-of_z w32 v f) in
     let large : 8192 < nat_abs v = omega arith in
     let k = here c.loop-place.invariant.2 _ c.in-Some.place c.in-Some.value c.in-Some.ensures.steps in
     sym (fails_first (allowed_at c.args.currents.now c.args.references.now) _ c.in-Some.place k.1

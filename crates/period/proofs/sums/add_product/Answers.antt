@@ -10,8 +10,8 @@ both c =
     let f : SFits w32 c.from-2.result = rw b c.ranges.x in
     (added c.args.sum c.from.result c.from-2.result f (within_as _ _ _ a c.requires.limited) c.requires.room, a, b)
 
-pub overflow-add-result : goal.overflow-add-result
-overflow-add-result c = (both c).0.sum
+pub overflow_add-result : goal.overflow_add-result
+overflow_add-result c = (both c).0.sum
 
 pub returns : goal.returns
 returns c =

@@ -3,19 +3,19 @@ use Rattle.std.proofs.lemmas.Int.{to_z-of_z}
 use Rattle.period.proofs.Rounding.{down_is, rows as rounding-rows, up_is}
 use Rattle.period.proofs.sums.rounded.Goals as goal
 
-pub returns-then-rem-euclid-lt-HALF : goal.returns-then-rem-euclid-lt-HALF
-returns-then-rem-euclid-lt-HALF c =
+pub returns-then-rem_euclid-lt-HALF : goal.returns-then-rem_euclid-lt-HALF
+returns-then-rem_euclid-lt-HALF c =
     let fs = c.ranges.sum in
-    let fq : SFits w64 c.div-euclid-whole.result = record { sfits = c.div-euclid-whole.type-inv } in
-    let fr : SFits w64 c.rem-euclid.result = record { sfits = c.rem-euclid.type-inv } in
-    let q = simp to_z-of_z at c.div-euclid-whole.ensures in
-    let r = simp to_z-of_z at c.rem-euclid.ensures.value in
-    record { value = to_z-of_z w64 _ fq ∙ down_is c.args.sum _ _ q r (simp to_z-of_z at c.if-rem-euclid-lt-HALF.true); rows = rounding-rows }
+    let fq : SFits w64 c.div_euclid-whole.result = record { sfits = c.div_euclid-whole.type_inv } in
+    let fr : SFits w64 c.rem_euclid.result = record { sfits = c.rem_euclid.type_inv } in
+    let q = simp to_z-of_z at c.div_euclid-whole.ensures in
+    let r = simp to_z-of_z at c.rem_euclid.ensures.value in
+    record { value = to_z-of_z w64 _ fq ∙ down_is c.args.sum _ _ q r (simp to_z-of_z at c.if-rem_euclid-lt-HALF.true); rows = rounding-rows }
 
-pub returns-else-rem-euclid-lt-HALF : goal.returns-else-rem-euclid-lt-HALF
-returns-else-rem-euclid-lt-HALF c =
+pub returns-else-rem_euclid-lt-HALF : goal.returns-else-rem_euclid-lt-HALF
+returns-else-rem_euclid-lt-HALF c =
     let fs = c.ranges.sum in
-    let fr : SFits w64 c.rem-euclid.result = record { sfits = c.rem-euclid.type-inv } in
-    let q = simp to_z-of_z at c.div-euclid-whole.ensures in
-    let r = simp to_z-of_z at c.rem-euclid.ensures.value in
-    record { value = up_is c.args.sum _ _ fs q r (simp to_z-of_z at c.if-rem-euclid-lt-HALF.false); rows = rounding-rows }
+    let fr : SFits w64 c.rem_euclid.result = record { sfits = c.rem_euclid.type_inv } in
+    let q = simp to_z-of_z at c.div_euclid-whole.ensures in
+    let r = simp to_z-of_z at c.rem_euclid.ensures.value in
+    record { value = up_is c.args.sum _ _ fs q r (simp to_z-of_z at c.if-rem_euclid-lt-HALF.false); rows = rounding-rows }

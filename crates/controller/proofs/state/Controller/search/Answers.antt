@@ -18,12 +18,12 @@ returns g c =
     let d = data_of t in
     let i = c.args.currents.now in
     let y = c.args.references.now in
-    let got = granted (inputs_refusal d.horizon i y) (Solved d (period_given s b i y)) c.in-ok-period.period c.in-ok-period.ensures in
+    let got = granted (inputs_refusal d.horizon i y) (Solved d (period_given s b i y)) c.in_ok-period.period c.in_ok-period.ensures in
     let k = c.task-task.ensures in
     let q = c.sequence_of.ensures in
     plan_granted s b d i y (option_map data_of x.tables) _ (ap (option_map data_of) c.in-Some.is) got.0
     (λ st.
-    keeps s b d i y {memory = x.remembered} {p = c.in-ok-period.period} {k = c.task-task.result} c.decode-answer.result _
+    keeps s b d i y {memory = x.remembered} {p = c.in_ok-period.period} {k = c.task-task.result} c.decode-answer.result _
     (record {
       few = t.horizon.few;
       loaded = ap (option_map data_of) c.in-Some.is;
