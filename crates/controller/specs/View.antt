@@ -5,6 +5,8 @@ use Rattle.fault.specs.declared.Fault.{Fault}
 use Rattle.legs.specs.Measure.{MeasureModel}
 use Rattle.legs.specs.Model.{LegModel}
 use Rattle.legs.specs.declared.barred.Barred.{Barred}
+use Rattle.legs.specs.declared.leg.Leg.{Ghosts as LegGhosts}
+use Rattle.legs.specs.declared.measure.Measure.{Ghosts as MeasureGhosts}
 use Rattle.legs.specs.declared.phases.Legs.{Legs}
 use Rattle.file.specs.Tables.{data_of}
 use Rattle.decoder.specs.declared.Mark.{Mark}
@@ -103,9 +105,9 @@ abbrev pub Bears : ℕ → Bool → Result Order Fault → Type 0
 Bears id pending (Ok o) = (o.identity ≡ id) × (pending ≡ true)
 Bears id pending (Err f) = Unit {0}
 
-module _ {M A B C K : Type 0} where
+module _ {M A B C K : Type 0} {ghosts_m : MeasureGhosts M K} {ghosts_a : LegGhosts A} {ghosts_b : LegGhosts B} {ghosts_c : LegGhosts C} where
   -- what a controller knows, as a logbook
-  abbrev pub book_of : Controller M A B C K → Logbook
+  abbrev pub book_of : Controller M A B C K ghosts_m ghosts_a ghosts_b ghosts_c → Logbook
   book_of c = record {
     applied = c.applied;
     bars = bars_of c.legs;
@@ -117,7 +119,7 @@ module _ {M A B C K : Type 0} where
   }
 
   -- what of a logbook its settings show
-  abbrev pub settings_of : Controller M A B C K → Settings
+  abbrev pub settings_of : Controller M A B C K ghosts_m ghosts_a ghosts_b ghosts_c → Settings
   settings_of c = record {
     horizon = option_map (λ d. d.horizon) (book_of c).tables;
     limit = (book_of c).limit;
@@ -127,11 +129,11 @@ module _ {M A B C K : Type 0} where
   }
 
   -- what a controller is built with, by the meanings of its measure and legs
-  abbrev pub setup_of : (M → MeasureModel K) → (A → LegModel) → (B → LegModel) → (C → LegModel) → Controller M A B C K → Setup K
+  abbrev pub setup_of : (M → MeasureModel K) → (A → LegModel) → (B → LegModel) → (C → LegModel) → Controller M A B C K ghosts_m ghosts_a ghosts_b ghosts_c → Setup K
   setup_of m a b c x = built (m x.measure) (a x.legs.a.below) (b x.legs.b.below) (c x.legs.c.below)
 
   -- what no call changes
-  pub record Same (x y : Controller M A B C K) : Type 0 where
+  pub record Same (x y : Controller M A B C K ghosts_m ghosts_a ghosts_b ghosts_c) : Type 0 where
     pub identity : y.identity ≡ x.identity
     pub measure : y.measure ≡ x.measure
     pub leg_a : y.legs.a.below ≡ x.legs.a.below
@@ -139,7 +141,7 @@ module _ {M A B C K : Type 0} where
     pub leg_c : y.legs.c.below ≡ x.legs.c.below
 
   -- a call other than a plan: what it answers, and what it leaves behind
-  pub record Does (c : Controller M A B C K) (call : Call) (r : Reply K) (d : Controller M A B C K) : Type 0 where
+  pub record Does (c : Controller M A B C K ghosts_m ghosts_a ghosts_b ghosts_c) (call : Call) (r : Reply K) (d : Controller M A B C K ghosts_m ghosts_a ghosts_b ghosts_c) : Type 0 where
     pub answers : r ≡ answer (refusal c.identity (book_of c) call)
     pub after : book_of d ≡ step (book_of c) call r
     pub readable : d.plan ≡ left_after call r c.plan
@@ -147,7 +149,7 @@ module _ {M A B C K : Type 0} where
     pub same : Same c d
 
   -- a plan: when it is denied, what it answers from a logbook that stands, and what it leaves behind
-  pub record Plans (s : Setup K) (c : Controller M A B C K) (call : Call) (r : Reply K) (d : Controller M A B C K) : Type 0 where
+  pub record Plans (s : Setup K) (c : Controller M A B C K ghosts_m ghosts_a ghosts_b ghosts_c) (call : Call) (r : Reply K) (d : Controller M A B C K ghosts_m ghosts_a ghosts_b ghosts_c) : Type 0 where
     pub owed : denial r ≡ refusal c.identity (book_of c) call
     pub answers : Stands s (book_of c) → Answered s c.identity (book_of c) call r
     pub after : book_of d ≡ step (book_of c) call r
