@@ -1,5 +1,7 @@
 -- One call of a recording, with the order that is held beside the controller.
 use Rattle.std.specs.Prelude.{◌≡◌, ℕ, Bool, true, false, List, take, Some, None, Option}
+use Rattle.legs.specs.declared.leg.Leg.{Ghosts as LegGhosts}
+use Rattle.legs.specs.declared.measure.Measure.{Ghosts as MeasureGhosts}
 use Rattle.controller.specs.Law.{Answered}
 use Rattle.controller.specs.Logbook.{entries_read, step}
 use Rattle.controller.specs.Problems.{Setup}
@@ -43,9 +45,9 @@ ReplyOf (Some p) Granted = ⊥
 ReplyOf (Some p) (Denied f) = ⊥
 ReplyOf None r = r ≡ Granted
 
-module _ {M A B C K : Type 0} where
+module _ {M A B C K : Type 0} {ghosts_m : MeasureGhosts M K} {ghosts_a : LegGhosts A} {ghosts_b : LegGhosts B} {ghosts_c : LegGhosts C} where
   -- a call was answered as the logbook says, and the logbook goes on with it
-  pub record Turns (s : Setup K) (c : Controller M A B C K) (call : Call) (r : Reply K) (d : Controller M A B C K) (o : Option Order) : Type 0 where
+  pub record Turns (s : Setup K) (c : Controller M A B C K ghosts_m ghosts_a ghosts_b ghosts_c) (call : Call) (r : Reply K) (d : Controller M A B C K ghosts_m ghosts_a ghosts_b ghosts_c) (o : Option Order) : Type 0 where
     pub answers : Answered s c.identity (book_of c) call r
     pub after : book_of d ≡ step (book_of c) call r
     pub same : Same c d

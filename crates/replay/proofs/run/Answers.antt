@@ -23,7 +23,7 @@ pub loop-call-preserved : goal.loop-call-preserved
 loop-call-preserved g c =
     let go = c.loop-call.invariant.3 in
     let asks = take_more c.args.calls.now c.loop-call.call-index _ c.loop-call-test.true in
-    (search rules, search rules, search rules, going_on _ _ _ _ _ go c.perform-next.ensures asks c.push-reserved.ensures.items)
+    (search rules, search rules, search rules, going_on _ _ _ _ _ go c.perform-next.ensures asks c.push_reserved.ensures.items)
 
 pub returns : goal.returns
 returns g c =
