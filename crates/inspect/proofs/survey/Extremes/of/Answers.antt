@@ -25,4 +25,4 @@ loop-value-preserved c =
 
 pub returns : goal.returns
 returns c =
-    all_seen c.args.entries.now c.loop-value.found c.loop-value.value-index (omega (arith, eqb-false (length c.args.entries.now) 0 (sym c.if-is-empty.ensures))) c.loop-value-test.false c.loop-value.invariant
+    all_seen c.args.entries.now c.loop-value.found c.loop-value.value-index (omega (arith, eqb-false (length c.args.entries.now) 0 (sym c.if-is_empty.ensures))) c.loop-value-test.false c.loop-value.invariant
