@@ -1,5 +1,5 @@
 -- One bar of three.
-use Rattle.std.proofs.Common.{◌≡◌, ℕ, zero, suc, ◌<◌, Bool, List, [], ◌∷◌, set, refl, arith}
+use Rattle.std.proofs.Common.{◌≡◌, ℕ, zero, suc, ◌<◌, Bool, set, arith}
 use Rattle.legs.specs.Bars.{OneBar}
 use Rattle.legs.specs.declared.barred.Barred.{Barred}
 use Rattle.legs.specs.declared.phases.Legs.{Legs}

@@ -1,12 +1,12 @@
 -- A logbook that stands still does after the next call.
-use Rattle.std.proofs.Common.{◌≡◌, ℕ, zero, suc, ◌*◌, ◌<◌, ◌≤◌, List, [], ◌∷◌, length, get_or, take, ℤ, Some, None, Option, sym, refl, ap, ◌∙◌, subst, arith}
+use Rattle.std.proofs.Common.{◌≡◌, ℕ, zero, suc, ◌*◌, ◌<◌, ◌≤◌, List, [], ◌∷◌, length, get_or, ℤ, Some, None, Option, refl, arith}
 use Rattle.std.proofs.lemmas.List.{get_or-take}
 use Rattle.fault.proofs.Answered.{neither}
 use Rattle.fault.specs.declared.Fault.{Fault}
 use Rattle.file.proofs.Accepted.{headed}
 use Rattle.file.specs.File.{TableData, entries_refusal, file_refusal, header_refusal, horizon_of, offset}
 use Rattle.file.specs.Layout as layout
-use Rattle.controller.specs.Law.{Answered, AnsweredBy, FullLength, Kept, LooksAhead, NextOnLegs, OnLegs, PlanKept, Stands}
+use Rattle.controller.specs.Law.{Answered, AnsweredBy, FullLength, LooksAhead, NextOnLegs, OnLegs, PlanKept, Stands}
 use Rattle.controller.specs.Logbook.{Logbook, entries_read, first_day, first_stage, granted, open_refusal, refusal, step}
 use Rattle.controller.specs.Problems.{Setup}
 use Rattle.controller.specs.declared.calls.Call.{Call}

@@ -1,5 +1,5 @@
 -- The logbook: what is known of a controller from its calls and what came of them, and which refusal it owes next.
-use Rattle.std.specs.Prelude.{◌≡◌, ℕ, Bool, true, false, not, ◌&&◌, List, [], ◌∷◌, take, set, ℤ, Some, None, Option, ◌==◌, nat_le, nat_lt, slice_set}
+use Rattle.std.specs.Prelude.{ℕ, Bool, true, false, not, ◌&&◌, List, [], ◌∷◌, take, ℤ, Some, None, Option, ◌==◌, nat_le, nat_lt, slice_set}
 use Rattle.fault.specs.Refusals.{first_of, unless}
 use Rattle.fault.specs.declared.Fault.{Fault}
 use Rattle.file.specs.File.{TableData, file_refusal, tables_of}

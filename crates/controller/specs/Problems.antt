@@ -1,5 +1,5 @@
 -- The problem that a plan poses to the decoder, from the logbook and the plan's own currents and references.
-use Rattle.std.specs.Prelude.{ℕ, ◌-◌, ◌*◌, Bool, false, List, ◌++◌, map, length, replicate, ℤ, pos, slice_index_or}
+use Rattle.std.specs.Prelude.{ℕ, ◌-◌, ◌*◌, false, List, ◌++◌, map, length, replicate, ℤ, pos, slice_index_or}
 use Rattle.std.specs.List.{range_with_len}
 use Rattle.legs.specs.Kinds.{barred}
 use Rattle.legs.specs.Measure.{MeasureModel}

@@ -1,5 +1,5 @@
 -- A controller by its logbook, and what its calls promise.
-use Rattle.std.specs.Prelude.{◌≡◌, ℕ, ◌-◌, Bool, true, false, cond, ◌&&◌, List, [], ◌∷◌, take, ℤ, Some, None, Ok, Err, Option, Result, nat_le, slice_index}
+use Rattle.std.specs.Prelude.{◌≡◌, ℕ, ◌-◌, Bool, true, cond, ◌&&◌, List, [], ◌∷◌, take, Some, None, Ok, Err, Option, Result, nat_le, slice_index}
 use Rattle.std.specs.Option.{option_map}
 use Rattle.fault.specs.declared.Fault.{Fault}
 use Rattle.legs.specs.Measure.{MeasureModel}
@@ -9,7 +9,6 @@ use Rattle.legs.specs.declared.leg.Leg.{Ghosts as LegGhosts}
 use Rattle.legs.specs.declared.measure.Measure.{Ghosts as MeasureGhosts}
 use Rattle.legs.specs.declared.phases.Legs.{Legs}
 use Rattle.file.specs.Tables.{data_of}
-use Rattle.decoder.specs.declared.Mark.{Mark}
 use Rattle.controller.specs.Logbook.{Logbook, refusal, step}
 use Rattle.controller.specs.Problems.{Setup, built}
 use Rattle.controller.specs.Law.{Answered, Stands}

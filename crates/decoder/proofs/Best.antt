@@ -1,20 +1,19 @@
 -- The answer of a search that is not stopped is the best of all.
-use Rattle.std.proofs.Common.{◌≡◌, ℕ, zero, suc, ◌+◌, ◌-◌, ◌<◌, ◌≤◌, Bool, true, false, cond, not, ◌&&◌, ◌||◌, eqb, ltb, leb, ◌⊎◌, List, [], ◌∷◌, ◌++◌, map, length, get_or, take, drop, set, fold, filter, sym, refl, ap, ◌∙◌, subst, ap₂, inl, inr, ⊎_elim, add-one, arith}
+use Rattle.std.proofs.Common.{◌≡◌, ℕ, zero, suc, ◌+◌, ◌-◌, ◌<◌, ◌≤◌, Bool, true, false, cond, not, ◌||◌, eqb, ◌⊎◌, List, [], ◌∷◌, ◌++◌, map, length, get_or, take, fold, filter, sym, refl, ap, ◌∙◌, subst, inl, inr, ⊎_elim, add-one, arith}
 use mathlib.Core.List.Memᴰ
 use mathlib.Core.List.{Memᴰ}
 use Rattle.decoder.specs.Answers.{marked}
-use Rattle.decoder.proofs.Tree.{backward, Found}
-use Rattle.decoder.specs.declared.Mark.{Mark}
-use Rattle.decoder.specs.declared.Mark.TheVariants.{Certified, Stopped}
+use Rattle.decoder.proofs.Tree.{backward}
+use Rattle.decoder.specs.declared.Mark.TheVariants.{Certified}
 use Rattle.std.specs.List.{range_with_len, flat_map, AllByRecursion as All}
 use Rattle.std.proofs.lemmas.List.Elements.{filter-append}
-use Rattle.std.proofs.ByRecursion.{All-append, All-map, All-weaker, All-take, all_kept_by, kept_by_passes}
-use Rattle.std.proofs.lemmas.List.{append-nil, length-map, take-map, take_all, take_more, reverse-reverse, reverse-append, length-reverse}
-use Rattle.std.proofs.lemmas.Bool.{eq-eqb, ne_eqb, cond_both, both_ways, cases_Bool, cases_eq, and_parts, and_from, false≢true, eqb-true, leb-true}
-use Rattle.decoder.proofs.Tree.{Rules, Lawful, moves, rest, onto, fulls, pick, dues, answer, before, Permitted, Whole, Optimal, Fair, nodes, due, visited, opens, Opens}
+use Rattle.std.proofs.ByRecursion.{All-append, All-map, All-weaker}
+use Rattle.std.proofs.lemmas.List.{take_all, take_more, reverse-append}
+use Rattle.std.proofs.lemmas.Bool.{eq-eqb, ne_eqb, cond_both, both_ways, cases_eq, and_parts, and_from, false≢true}
+use Rattle.decoder.proofs.Tree.{Rules, Lawful, moves, onto, fulls, pick, dues, answer, before, Permitted, Whole, Optimal, opens, Opens}
 use Rattle.decoder.specs.Limits.{every}
 use Rattle.decoder.proofs.Bools.{all_of, every_true, before_same, before_less}
-use Rattle.decoder.proofs.Walk.{after, seen, visits, seen_dues, after_skip, fulls_of, Rising, rising_counting, not_above, leq_refl, folded_leq, length_onto, fulls_long, fold_fit, after_fit}
+use Rattle.decoder.proofs.Walk.{after, seen, visits, seen_dues, after_skip, fulls_of, Rising, rising_counting, leq_refl, length_onto, fulls_long, after_fit}
 use Rattle.decoder.proofs.Pend.{afters, after_suc, folded_append}
 
 all_in : {X : Type 0} (P : X → Type 0) (xs : List X) (x : X) → All P xs → Memᴰ x xs → P x

@@ -1,21 +1,21 @@
 -- From beginnings with their last entry first to sequences in natural order.
-use Rattle.std.proofs.Common.{◌≡◌, ℕ, zero, suc, ◌+◌, ◌-◌, ◌*◌, ◌<◌, ◌≤◌, min, Bool, true, false, cond, not, ◌&&◌, ◌||◌, eqb, ltb, leb, ◌≢◌, ◌⊎◌, List, [], ◌∷◌, ◌++◌, map, length, get_or, take, drop, ℤ, pos, ◌+ℤ◌, ◌-ℤ◌, ◌*ℤ◌, fold, filter, sym, refl, ap, ◌∙◌, subst, ap₂, inl, inr, ⊎_elim, add-one, arith}
+use Rattle.std.proofs.Common.{◌≡◌, ℕ, zero, suc, ◌+◌, ◌-◌, ◌<◌, ◌≤◌, Bool, true, false, cond, ◌&&◌, ◌||◌, eqb, ltb, List, [], ◌∷◌, map, length, get_or, take, drop, pos, ◌+ℤ◌, ◌-ℤ◌, fold, filter, sym, refl, ap, ◌∙◌, subst, ap₂, ⊎_elim, add-one, arith}
 use mathlib.Core.List.{drop_last}
-use Rattle.std.specs.List.{range_with_len, flat_map, AllByRecursion as All}
+use Rattle.std.specs.List.{AllByRecursion as All}
 use Rattle.std.proofs.ByRecursion.{All-map, All-weaker, all_kept_by, kept_by_passes}
-use Rattle.std.proofs.lemmas.List.{take_all, drop_all, drop_more, reverse-reverse, length-reverse, length-take-le}
-use Rattle.std.proofs.lemmas.Bool.{lt-ltb, le-ltb, cond_both, cases_eq, leb-true}
+use Rattle.std.proofs.lemmas.List.{take_all, drop_all, drop_more, reverse-reverse, length-reverse}
+use Rattle.std.proofs.lemmas.Bool.{cases_eq}
 use Rattle.legs.specs.Measure.{at_most}
 use Rattle.decoder.specs.Sequences as nat
 use Rattle.decoder.specs.Sequences.{Problem, leg_of, coupling, sum_below, MayBe, Feasible, precedes, Ascending, In, Before}
 use Rattle.decoder.specs.Computed.{better, cheapest}
-use Rattle.decoder.proofs.Tree.{Rules, Lawful, moves, onto, fulls, nodes, dues, due, opens, none, answer, pick, before, Permitted, Whole, Optimal, Fair, Opens, backward, Found}
-use Rattle.decoder.proofs.Machine.{term, row_sum, sum_back, difference_back, differences, previous, machine}
+use Rattle.decoder.proofs.Tree.{Rules, moves, onto, fulls, nodes, dues, due, answer, pick, before, Permitted, Whole, Opens, backward}
+use Rattle.decoder.proofs.Machine.{term, row_sum, sum_back, difference_back, previous, machine}
 use Rattle.decoder.proofs.Bools.{all_of, kept_map, kept_ext}
 use Rattle.decoder.proofs.Walk.{Rising, rising_counting, nodes_of}
-use Rattle.decoder.proofs.Steps.{length_backward, get_or_backward, backward_more}
-use Rattle.decoder.proofs.Order.{precedes_same, precedes_less, in_all, all_self, in_kept, asc_kept, asc_take, asc_append, asc_map, settled}
-use Rattle.decoder.proofs.Best.{backward_take, kept_low, kept_all, all_unmap, all_unjoin, all_join, all_both, opens_means, means_opens}
+use Rattle.decoder.proofs.Steps.{length_backward, backward_more}
+use Rattle.decoder.proofs.Order.{precedes_same, precedes_less, in_all, all_self, in_kept, asc_kept, asc_append, asc_map, settled}
+use Rattle.decoder.proofs.Best.{backward_take, kept_low, kept_all, all_unmap, all_unjoin, all_join, opens_means, means_opens}
 
 pub onto_back : (q : List ℕ) → onto [] q ≡ backward (length q) q
 onto_back q = sym (backward_take (length q) q (omega arith) ∙ ap (onto []) (take_all (length q) q (omega arith)))

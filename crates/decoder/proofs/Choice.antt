@@ -1,8 +1,8 @@
 -- What is chosen among the nodes visited.
-use Rattle.std.proofs.Common.{◌≡◌, ℕ, ◌≤◌, Bool, true, false, cond, eqb, ◌⊎◌, List, [], ◌∷◌, length, fold, filter, sym, refl, ap, ◌∙◌, subst, ap₂, inl, inr, ⊎_elim, arith}
+use Rattle.std.proofs.Common.{◌≡◌, ℕ, ◌≤◌, Bool, true, false, cond, eqb, ◌⊎◌, List, [], ◌∷◌, length, fold, filter, sym, refl, ap, ◌∙◌, subst, inl, inr, ⊎_elim, arith}
 use Rattle.std.specs.List.{AllByRecursion as All}
 use Rattle.std.proofs.ByRecursion.{All-weaker, kept_by_passes}
-use Rattle.std.proofs.lemmas.Bool.{eqb-true, eq-eqb, both_ways, cond_both}
+use Rattle.std.proofs.lemmas.Bool.{eqb-true, eq-eqb, both_ways}
 use Rattle.legs.specs.Measure.{at_most}
 use Rattle.decoder.specs.Sequences.{Problem, Sound, precedes, Ascending, In, cost, NoDearer}
 use Rattle.decoder.specs.Answers.{FullIn, Chosen}

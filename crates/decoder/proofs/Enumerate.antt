@@ -1,19 +1,19 @@
 -- The enumeration of the due nodes gives the nodes that the search visits.
-use Rattle.std.proofs.Common.{◌≡◌, ℕ, zero, suc, ◌+◌, ◌-◌, ◌<◌, ◌≤◌, Bool, true, false, cond, not, ◌&&◌, ◌||◌, eqb, ltb, leb, List, [], ◌∷◌, ◌++◌, map, length, get_or, take, drop, filter, sym, refl, ap, ◌∙◌, subst, ap₂, append_assoc, arith}
-use mathlib.Core.List.{drop_last, reverse_aux}
-use Rattle.std.specs.List.{range_with_len, flat_map, AllByRecursion as All}
+use Rattle.std.proofs.Common.{◌≡◌, ℕ, zero, suc, ◌-◌, ◌<◌, ◌≤◌, not, ◌&&◌, ◌||◌, List, [], ◌∷◌, ◌++◌, map, length, take, filter, sym, refl, ap, ◌∙◌, subst, ap₂, append_assoc, arith}
+use mathlib.Core.List.{drop_last}
+use Rattle.std.specs.List.{range_with_len, flat_map}
 use Rattle.std.proofs.ByRecursion.{All-weaker}
 use Rattle.std.proofs.lemmas.List.{append-nil, map-append, length-reverse, reverse-reverse}
-use Rattle.std.proofs.lemmas.Bool.{lt-leb, le-leb}
+use Rattle.std.proofs.lemmas.Bool.{lt-leb}
 use Rattle.decoder.specs.Sequences as nat
 use Rattle.decoder.specs.Sequences.{Problem, leg_of, precedes}
 use Rattle.decoder.specs.Computed as lst
 use Rattle.decoder.specs.Limits.{every}
 use Rattle.decoder.specs.Theorems.{ListingStands}
 use Rattle.legs.specs.Measure.{at_most}
-use Rattle.decoder.proofs.Tree.{Rules, moves, rest, onto, fulls, nodes, dues, due, opens, none, Permitted}
+use Rattle.decoder.proofs.Tree.{Rules, moves, onto, fulls, nodes, opens}
 use Rattle.decoder.proofs.Machine.{previous, machine}
-use Rattle.decoder.proofs.Bools.{all_of, kept_ext, map_map, every_ext}
+use Rattle.decoder.proofs.Bools.{kept_ext, map_map, every_ext}
 use Rattle.decoder.proofs.Best.{fulls_in}
 use Rattle.decoder.proofs.Bridge.{onto_back, previous_is, leq_onto, before_precedes, short, nodes_are, dues_are, one_list, due_or_not, walked}
 

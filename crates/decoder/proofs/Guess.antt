@@ -1,5 +1,5 @@
 -- The guesses, entry by entry.
-use Rattle.std.proofs.Common.{◌≡◌, ℕ, zero, suc, ◌+◌, ◌-◌, ◌<◌, ◌≤◌, Bool, true, false, cond, not, ◌&&◌, ltb, leb, List, [], ◌∷◌, ◌++◌, length, get_or, take, drop, set, Some, None, Option, sym, refl, ap, ◌∙◌, subst, ap₂, add-one, arith, length-append}
+use Rattle.std.proofs.Common.{◌≡◌, ℕ, zero, suc, ◌+◌, ◌-◌, ◌<◌, ◌≤◌, Bool, true, false, cond, ◌&&◌, ltb, List, [], ◌∷◌, ◌++◌, length, get_or, take, drop, set, Option, sym, refl, ap, ◌∙◌, ap₂, add-one, arith, length-append}
 use Rattle.std.proofs.lemmas.List.{take_more, take_more_set, get_or-take, get_or-drop, get_or_append_left, get_or-append_right, length-drop, length-take-le, take_all}
 use Rattle.std.proofs.lemmas.Bool.{and_right}
 use Rattle.decoder.specs.Sequences.{Problem, leg_of, origin}

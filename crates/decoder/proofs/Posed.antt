@@ -1,5 +1,5 @@
 -- A task poses a problem that keeps every limit.
-use Rattle.std.proofs.Common.{◌≡◌, ℕ, ◌%◌, ◌<◌, ◌≤◌, Bool, ap, ◌∙◌, arith}
+use Rattle.std.proofs.Common.{◌≡◌, ℕ, ◌%◌, Bool, ap, ◌∙◌, arith}
 use Rattle.legs.specs.Model as leg
 use Rattle.legs.specs.Model.{LegModel}
 use Rattle.legs.specs.Measure as measure

@@ -1,8 +1,8 @@
 -- From the computed answer to the one that is defined, and to what is promised of it.
-use Rattle.std.proofs.Common.{◌≡◌, ℕ, zero, suc, ◌<◌, ◌≤◌, min, Bool, true, false, leb, ◌⊎◌, List, [], ◌∷◌, length, take, sym, refl, ap, ◌∙◌, subst, ap₂, inl, inr, ⊎_elim, arith}
+use Rattle.std.proofs.Common.{◌≡◌, ℕ, zero, suc, ◌≤◌, min, leb, List, [], ◌∷◌, length, take, sym, ap, ◌∙◌, subst, ap₂, inl, inr, ⊎_elim, arith}
 use Rattle.std.proofs.lemmas.List.{take_all}
 use Rattle.std.proofs.lemmas.Bool.{leb-true, le-leb}
-use Rattle.decoder.specs.Sequences.{Problem, Sound, Feasible, DueNodes, In, NoDearer, precedes, cost}
+use Rattle.decoder.specs.Sequences.{Problem, Sound, Feasible, DueNodes, In, precedes, cost}
 use Rattle.decoder.specs.Guesses.{Placed, Start}
 use Rattle.decoder.specs.Answers.{marked, Chosen, Decoded}
 use Rattle.decoder.specs.Promise.{Counted, Optimal, Fair, Promise}
@@ -10,8 +10,7 @@ use Rattle.decoder.specs.Computed as computed
 use Rattle.decoder.specs.Computed.{Computed, cheapest, due_nodes}
 use Rattle.decoder.specs.Theorems.{AnswerStands}
 use Rattle.decoder.specs.declared.Mark.{Mark}
-use Rattle.decoder.specs.declared.Mark.TheVariants.{Certified, Stopped}
-use Rattle.decoder.proofs.Tree as tree
+use Rattle.decoder.specs.declared.Mark.TheVariants.{Certified}
 use Rattle.decoder.proofs.Tree.{onto, Found}
 use Rattle.decoder.proofs.Machine.{machine}
 use Rattle.decoder.proofs.Best.{answer_optimal, certain}
@@ -19,7 +18,7 @@ use Rattle.decoder.proofs.Order.{asc_take}
 use Rattle.decoder.proofs.Bridge.{walked, dues_are, one_list, answer_is, undo, leq_onto, cost_onto, before_precedes, whole_to, whole_from}
 use Rattle.decoder.proofs.Enumerate.{listing_is, listing_due}
 use Rattle.decoder.proofs.Reach.{lawful, no_dearer_trans}
-use Rattle.decoder.proofs.Choice.{chosen, chosen_alone, chosen_long}
+use Rattle.decoder.proofs.Choice.{chosen, chosen_alone}
 use Rattle.decoder.proofs.Starts.{start_alone, start_feasible, start_rounded, start_remembered, start_is}
 
 in_take : (n : ℕ) (xs : List (List ℕ)) (q : List ℕ) → In q (take n xs) → In q xs

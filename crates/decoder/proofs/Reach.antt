@@ -1,19 +1,18 @@
 -- How large differences get, and that the cost of every beginning is one that its measure can reach.
-use Rattle.std.proofs.Common.{◌≡◌, ℕ, zero, suc, ◌+◌, ◌-◌, ◌*◌, ◌%◌, ◌<◌, ◌≤◌, Bool, true, false, not, List, [], ◌∷◌, length, get_or, ℤ, pos, negsuc, ◌+ℤ◌, ◌-ℤ◌, ◌*ℤ◌, neg_ℤ, nat_abs, ◌≤ℤ◌, Ordering, Less, Equal, Greater, sym, refl, ap, ◌∙◌, subst, ap₂, add-one, arith, w64, to_z, of_z}
+use Rattle.std.proofs.Common.{◌≡◌, ℕ, zero, suc, ◌+◌, ◌*◌, ◌%◌, ◌<◌, ◌≤◌, Bool, true, false, not, List, [], ◌∷◌, length, get_or, ℤ, pos, negsuc, ◌+ℤ◌, ◌-ℤ◌, ◌*ℤ◌, neg_ℤ, ◌≤ℤ◌, Ordering, Less, Equal, Greater, sym, refl, ap, ◌∙◌, subst, ap₂, add-one, arith, w64, to_z, of_z}
 use borrow.Author.Differences.{ints}
 use Rattle.std.specs.Ordering.{is_le, is_lt, is_gt, ordering_reverse}
 use Rattle.std.specs.List.{AllByRecursion as All}
 use Rattle.std.proofs.lemmas.Bool.{false≢true}
 use Rattle.legs.specs.Model as leg
-use Rattle.legs.specs.Measure.{MeasureModel, Small, Reached, cost_of, at_most}
+use Rattle.legs.specs.Measure.{Small, Reached, at_most}
 use Rattle.decoder.specs.Limits.{Within}
-use Rattle.decoder.specs.Sequences.{Problem, Sound, leg_of, coupling, sum_below, left_over, difference, cost, cost_to, NoDearer}
+use Rattle.decoder.specs.Sequences.{Problem, Sound, leg_of, coupling, left_over, difference, cost, cost_to, NoDearer}
 use Rattle.decoder.specs.Theorems.{DifferencesSmall}
-use Rattle.decoder.proofs.Tree.{Rules, Lawful, onto, backward}
+use Rattle.decoder.proofs.Tree.{Lawful, backward}
 use Rattle.decoder.proofs.Machine.{term, row_sum, sum_back, difference_back, differences, machine}
 use Rattle.decoder.proofs.Steps.{length_backward}
-use Rattle.decoder.proofs.Walk.{length_onto}
-use Rattle.decoder.proofs.Bridge.{cost_onto, cost_back}
+use Rattle.decoder.proofs.Bridge.{cost_back}
 use Rattle.decoder.proofs.Signs.{take_off, small_bits}
 
 -- what one comparison says of the other way round

@@ -1,11 +1,10 @@
 -- The rounded guess is what its definition says, and feasible.
-use Rattle.std.proofs.Common.{◌≡◌, ℕ, zero, suc, ◌+◌, ◌-◌, ◌%◌, ◌<◌, ◌≤◌, Bool, true, false, cond, ltb, leb, ◌≢◌, ◌⊎◌, List, [], ◌∷◌, ◌++◌, length, get_or, take, Some, None, Option, sym, refl, ap, ◌∙◌, subst, ap₂, inl, inr, ⊎_elim, add-one, arith, length-append}
+use Rattle.std.proofs.Common.{◌≡◌, ℕ, zero, suc, ◌-◌, ◌%◌, ◌<◌, ◌≤◌, Bool, true, false, cond, ltb, leb, ◌≢◌, List, [], ◌∷◌, length, get_or, take, Some, None, Option, sym, refl, ap, ◌∙◌, subst, ⊎_elim, add-one, arith, length-append}
 use lib.Seq.{take-append-le}
 use Rattle.std.proofs.lemmas.List.{take_all, get_or-take, get_or-append_right, take_more_same}
 use Rattle.std.proofs.lemmas.Bool.{leb-true, leb-false, ltb-true, ltb-false, cases_eq, both_ways}
-use Rattle.legs.specs.Model as leg
 use Rattle.decoder.specs.Sequences.{Problem, Sound, leg_of, origin, MayBe, Feasible}
-use Rattle.decoder.specs.Guesses.{distance_at, Placed, Nearest, Rounded}
+use Rattle.decoder.specs.Guesses.{distance_at, Placed, Rounded}
 use Rattle.decoder.specs.Computed.{nearer, nearest_below, or_zero, rounded_to, rounded}
 use Rattle.decoder.proofs.Guess.{origin_cut}
 

@@ -1,22 +1,22 @@
 -- What the search keeps from step to step, as the code has it.
-use Rattle.std.proofs.Common.{◌≡◌, ℕ, zero, suc, ◌+◌, ◌-◌, ◌*◌, ◌%◌, ◌<◌, ◌≤◌, Bool, true, false, not, ◌≢◌, ◌⊎◌, List, [], ◌∷◌, length, get_or, take, set, replicate, ℤ, pos, ◌+ℤ◌, ◌-ℤ◌, ◌*ℤ◌, Ordering, sym, refl, ap, ◌∙◌, subst, ap₂, ⊎_elim, add-one, arith, w64, to_z, of_z}
+use Rattle.std.proofs.Common.{◌≡◌, ℕ, zero, suc, ◌+◌, ◌-◌, ◌%◌, ◌<◌, ◌≤◌, Bool, true, false, not, ◌≢◌, List, [], ◌∷◌, length, get_or, take, set, replicate, ℤ, pos, ◌+ℤ◌, ◌-ℤ◌, Ordering, sym, refl, ap, ◌∙◌, subst, ap₂, ⊎_elim, add-one, arith, w64, to_z, of_z}
 use Rattle.std.specs.Ordering.{is_le, is_gt}
 use Rattle.std.specs.List.{AllByRecursion as All}
 use Rattle.std.proofs.lemmas.List.{get_or_default, get_or-set_same, get_or-set_other, length-set}
 use Rattle.std.proofs.lemmas.Bool.{cases_eq}
-use Rattle.legs.specs.Model.{LegModel, most_positions}
+use Rattle.legs.specs.Model.{most_positions}
 use Rattle.legs.specs.Measure.{Small, Reached, at_most}
-use Rattle.decoder.specs.Sequences.{Problem, Sound, leg_of, origin, left_over, difference, coupling, cost, cost_to}
+use Rattle.decoder.specs.Sequences.{Problem, Sound, leg_of, origin, left_over, difference, cost}
 use Rattle.decoder.specs.Computed.{Computed}
 use Rattle.decoder.specs.Tasks.{ZeroPast}
 use Rattle.decoder.specs.declared.Mark.{Mark}
 use Rattle.decoder.specs.declared.Mark.TheVariants.{Certified, Stopped}
 use Rattle.decoder.proofs.Tree.{Rules, backward, Found, onto}
 use Rattle.decoder.proofs.Machine.{term, row_sum, machine}
-use Rattle.decoder.proofs.Steps.{Going, Kept, kept_top, length_backward, go_start, go_skip, go_back, go_over, go_full, go_down, go_stop, go_end, backward_more}
+use Rattle.decoder.proofs.Steps.{Going, kept_top, length_backward, go_start, go_skip, go_back, go_over, go_full, go_down, go_stop, go_end}
 use Rattle.decoder.proofs.Best.{backward_take}
 use Rattle.decoder.proofs.Bridge.{cost_back, cost_onto, previous_is}
-use Rattle.decoder.proofs.Reach.{le_not_gt, bounded, left_over_small, left_bits, row_bits, difference_small, reach, reached_to, lawful}
+use Rattle.decoder.proofs.Reach.{le_not_gt, bounded, left_over_small, left_bits, row_bits, difference_small, reach, lawful}
 use Rattle.decoder.proofs.Promised.{found_computed}
 
 -- the test that the code makes

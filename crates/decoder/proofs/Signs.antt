@@ -1,7 +1,6 @@
 -- Differences of rows in 64 bits.
-use Rattle.std.proofs.Common.{◌≡◌, ℕ, ◌≤◌, ℤ, pos, ◌+ℤ◌, ◌-ℤ◌, ◌*ℤ◌, nat_abs, sym, ap, ◌∙◌, subst, ap₂, arith, w8, w32, w64, SFits, to_z, of_z}
+use Rattle.std.proofs.Common.{◌≡◌, ℤ, ◌+ℤ◌, ◌-ℤ◌, arith, w64, SFits, to_z, of_z}
 use borrow.Author.Differences.{ints}
-use Rattle.std.proofs.lemmas.Int.{to_z-of_z}
 use Rattle.decoder.specs.Limits.{Within}
 
 -- a small number and its bits

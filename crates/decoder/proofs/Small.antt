@@ -1,11 +1,10 @@
 -- A list whose numbers all pass a test, taken one by one.
-use Rattle.std.proofs.Common.{◌≡◌, ℕ, zero, suc, ◌+◌, ◌<◌, ◌≤◌, Bool, true, false, ◌&&◌, leb, List, [], ◌∷◌, ◌++◌, length, get_or, take, ℤ, pos, nat_abs, sym, refl, ap, ◌∙◌, subst, ap₂, ⊎_elim, arith}
-use lib.ListN.{get_or-eq_default}
+use Rattle.std.proofs.Common.{◌≡◌, ℕ, zero, suc, ◌+◌, ◌<◌, ◌≤◌, Bool, true, false, ◌&&◌, List, [], ◌∷◌, length, get_or, take, ℤ, pos, nat_abs, refl, ap, ◌∙◌, arith}
 use borrow.Author.Differences.{ints}
 use Rattle.std.proofs.lemmas.List.{take_more}
 use Rattle.std.proofs.lemmas.Bool.{and_right, and_parts, and_from, leb-true, le-leb, lt-leb}
 use Rattle.decoder.specs.Limits.{Within, every, within}
-use Rattle.decoder.proofs.Bools.{every_append, and_true}
+use Rattle.decoder.proofs.Bools.{every_append}
 
 pub every_more : {X : Type 0} (t : X → Bool) (xs : List X) (i : ℕ) (d : X) → i < length xs → every t (take i xs) ≡ true → t (get_or xs i d) ≡ true → every t (take (i + 1) xs) ≡ true
 every_more t xs i d h a b = ap (every t) (take_more xs i d h) ∙ every_append t (take i xs) (get_or xs i d ∷ []) ∙ and_from _ _ a (and_from _ _ b refl)

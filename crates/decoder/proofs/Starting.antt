@@ -1,12 +1,12 @@
 -- The start, as the code comes to it.
-use Rattle.std.proofs.Common.{◌≡◌, ℕ, ◌≤◌, Bool, true, false, cond, ◌&&◌, eqb, List, length, take, Some, None, Option, Ordering, sym, refl, ap, ◌∙◌, subst, ap₂, arith}
+use Rattle.std.proofs.Common.{◌≡◌, ℕ, ◌≤◌, Bool, true, false, ◌&&◌, List, length, take, Some, None, Ordering, sym, ap, ◌∙◌, ap₂, arith}
 use Rattle.std.specs.Option.{option_map}
 use Rattle.std.specs.Ordering.{is_lt}
 use Rattle.std.proofs.lemmas.List.{length-take-le}
 use Rattle.std.proofs.lemmas.Bool.{eq-eqb}
 use Rattle.legs.specs.Model.{LegModel}
-use Rattle.legs.specs.Measure.{MeasureModel, Reached}
-use Rattle.decoder.specs.Sequences.{Problem, Sound, cost, cost_to}
+use Rattle.legs.specs.Measure.{MeasureModel}
+use Rattle.decoder.specs.Sequences.{Problem, cost, cost_to}
 use Rattle.decoder.specs.Guesses.{moved_on}
 use Rattle.decoder.specs.Computed.{permitted_to, feasible, cheaper, rounded, start}
 use Rattle.decoder.specs.Tasks.{posed, entries_of, ZeroPast}

@@ -1,17 +1,17 @@
 -- The start of a search.
-use Rattle.std.proofs.Common.{◌≡◌, ℕ, zero, suc, ◌<◌, ◌≤◌, Bool, true, false, cond, not, ◌&&◌, eqb, ltb, ◌⊎◌, List, [], ◌∷◌, length, get_or, take, Some, None, Option, Less, sym, refl, ap, ◌∙◌, subst, ap₂, inl, inr, ⊎_elim, arith}
+use Rattle.std.proofs.Common.{◌≡◌, ℕ, zero, suc, ◌<◌, ◌≤◌, Bool, true, false, cond, ◌&&◌, ltb, List, length, get_or, take, Some, None, Option, sym, refl, ap, ◌∙◌, subst, ap₂, inl, inr, ⊎_elim, arith}
 use Rattle.std.specs.Option.{option_map}
-use Rattle.std.specs.Ordering.{is_lt, is_le}
+use Rattle.std.specs.Ordering.{is_lt}
 use Rattle.std.proofs.lemmas.List.{get_or-take}
 use Rattle.std.proofs.lemmas.Bool.{and_right, and_parts, and_from, ltb-true, lt-ltb, eqb-true, eq-eqb, cases_eq, both_ways}
-use Rattle.decoder.specs.Sequences.{Problem, Sound, leg_of, origin, MayBe, Permitted, Feasible, NoDearer, Cheaper, cost, cost_to}
+use Rattle.decoder.specs.Sequences.{Problem, Sound, leg_of, MayBe, Feasible, NoDearer, Cheaper, cost, cost_to}
 use Rattle.decoder.specs.Guesses.{moved_on, Placed, Rounded, Remembered, Start}
 use Rattle.decoder.specs.Computed as computed
 use Rattle.decoder.specs.Computed.{may_be, permitted_to, feasible, cheaper, rounded, start_with}
 use Rattle.decoder.specs.Theorems.{StartStands}
 use Rattle.decoder.proofs.Best.{backward_take}
 use Rattle.decoder.proofs.Bridge.{cost_back, cost_onto}
-use Rattle.decoder.proofs.Guess.{origin_cut, moved_long}
+use Rattle.decoder.proofs.Guess.{origin_cut}
 use Rattle.decoder.proofs.Machine.{machine}
 use Rattle.decoder.proofs.Reach.{less_is, less_le, no_dearer_self, not_cheaper}
 use Rattle.decoder.proofs.Rounding.{rounded_is, rounded_alone, rounded_feasible}

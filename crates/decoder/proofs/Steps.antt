@@ -1,17 +1,16 @@
 -- The state of the search, and what each step does to it.
-use Rattle.std.proofs.Common.{◌≡◌, ℕ, zero, suc, ◌+◌, ◌-◌, ◌*◌, ◌^◌, ◌<◌, ◌≤◌, Bool, true, false, cond, not, ◌&&◌, ◌||◌, eqb, ltb, leb, ◌≢◌, List, [], ◌∷◌, ◌++◌, map, length, get_or, take, drop, set, fold, filter, sym, refl, ap, ◌∙◌, subst, ap₂, ⊎_elim, add-one, arith}
+use Rattle.std.proofs.Common.{◌≡◌, ℕ, zero, suc, ◌+◌, ◌-◌, ◌<◌, ◌≤◌, Bool, true, false, cond, eqb, ◌≢◌, List, [], ◌∷◌, ◌++◌, map, length, get_or, take, drop, set, fold, filter, sym, refl, ap, ◌∙◌, subst, ap₂, add-one, arith}
 use mathlib.Core.List.{head-eq_of_cons-eq, tail-eq_of_cons-eq}
-use Rattle.std.specs.List.{range_with_len, flat_map, AllByRecursion as All}
+use Rattle.std.specs.List.{AllByRecursion as All}
 use Rattle.std.proofs.lemmas.List.Elements.{filter-append}
-use Rattle.std.proofs.lemmas.List.{append-nil, length-map, take-map, take_all, drop_more, take_more, length-drop, get_or-set_same, get_or-set_other, length-set}
-use Rattle.std.proofs.lemmas.Bool.{eq-eqb, ne_eqb, lt-leb, le-leb, leb-true, leb-false, cases_eq}
-use Rattle.decoder.proofs.Tree.{Rules, Lawful, moves, rest, onto, fulls, pick, dues, answer}
+use Rattle.std.proofs.lemmas.List.{length-map, take-map, take_all, drop_more, take_more, length-drop, get_or-set_same, get_or-set_other, length-set}
+use Rattle.std.proofs.lemmas.Bool.{eq-eqb, ne_eqb, lt-leb, le-leb}
+use Rattle.decoder.proofs.Tree.{Rules, Lawful, onto, pick, dues}
 use Rattle.decoder.specs.Answers.{marked}
 use Rattle.legs.specs.Model.{most_positions}
 use Rattle.decoder.proofs.Tree.{backward, Found}
-use Rattle.decoder.specs.declared.Mark.{Mark}
 use Rattle.decoder.specs.declared.Mark.TheVariants.{Certified, Stopped}
-use Rattle.decoder.proofs.Walk.{after, seen, visits, seen_dues}
+use Rattle.decoder.proofs.Walk.{seen, seen_dues}
 use Rattle.decoder.proofs.Pend.{pend, pend_take, pend_skip, pend_back, pend_end, pend_over, pend_full, pend_down, pend_start, folded_append}
 
 -- one element more of a list

@@ -1,12 +1,11 @@
 -- A tree search with no legs in it. Here a beginning has its last entry first, so that `p ∷ s` is one entry longer than s,
 -- and `onto s q` is s with the entries q behind it, q being in natural order.
-use Rattle.std.proofs.Common.{◌≡◌, ℕ, zero, suc, ◌-◌, ◌<◌, ◌≤◌, min, Bool, true, false, cond, not, ◌&&◌, ◌||◌, eqb, ltb, leb, List, [], ◌∷◌, ◌++◌, map, length, get_or, take, fold, filter}
+use Rattle.std.proofs.Common.{◌≡◌, ℕ, zero, suc, ◌-◌, ◌<◌, ◌≤◌, min, Bool, true, false, cond, not, ◌&&◌, ◌||◌, eqb, ltb, leb, List, [], ◌∷◌, map, length, get_or, take, fold, filter}
 use mathlib.Core.List.{drop_last, reverse_aux}
 use Rattle.decoder.specs.Answers.{marked}
 use Rattle.decoder.specs.Limits.{every}
 use Rattle.decoder.specs.declared.Mark.{Mark}
-use Rattle.decoder.specs.declared.Mark.TheVariants.{Certified, Stopped}
-use Rattle.std.specs.List.{range_with_len, flat_map, AllByRecursion as All}
+use Rattle.std.specs.List.{range_with_len, flat_map}
 
 -- what may follow a beginning, what it costs, and how costs compare
 pub record Rules (C : Type 0) : Type 0 where

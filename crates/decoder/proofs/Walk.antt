@@ -1,14 +1,14 @@
 -- The tree search, and that it visits the due nodes.
-use Rattle.std.proofs.Common.{◌≡◌, ℕ, zero, suc, ◌+◌, ◌-◌, ◌<◌, ◌≤◌, Bool, true, false, cond, not, ◌&&◌, ◌||◌, eqb, ltb, leb, List, [], ◌∷◌, ◌++◌, map, length, fold, filter, sym, refl, ap, ◌∙◌, ap₂, arith}
+use Rattle.std.proofs.Common.{◌≡◌, ℕ, zero, suc, ◌+◌, ◌-◌, ◌<◌, ◌≤◌, Bool, true, false, cond, not, ◌&&◌, ◌||◌, List, [], ◌∷◌, ◌++◌, map, length, fold, filter, sym, refl, ap, ◌∙◌, ap₂, arith}
 use mathlib.Core.List.{drop_last}
 use Rattle.std.specs.List.{range_with_len, flat_map, AllByRecursion as All}
 use Rattle.std.proofs.lemmas.List.Elements.{filter-append}
-use Rattle.std.proofs.ByRecursion.{All-append, All-map, All-weaker}
+use Rattle.std.proofs.ByRecursion.{All-map, All-weaker}
 use Rattle.std.proofs.lemmas.List.{map-append}
 use Rattle.std.proofs.lemmas.Bool.{both_ways, cond_both}
-use Rattle.decoder.proofs.Tree.{Rules, Lawful, moves, rest, before, none, onto, fulls, nodes, opens, due, dues, pick}
+use Rattle.decoder.proofs.Tree.{Rules, Lawful, moves, before, onto, fulls, nodes, opens, due, pick}
 use Rattle.decoder.specs.Limits.{every}
-use Rattle.decoder.proofs.Bools.{and_true, and_false, and_assoc, absorb_left, absorb_right, all_of, all_joined, every_append, every_map, every_ext, every_true, kept_ext, kept_none, kept_map, map_cond, map_map, before_same, before_less, before_more}
+use Rattle.decoder.proofs.Bools.{and_true, and_assoc, absorb_left, absorb_right, all_of, all_joined, every_append, every_map, every_ext, every_true, kept_ext, kept_none, kept_map, map_map, before_same, before_less, before_more}
 
 abbrev pub over : {B V : Type 0} → (ℕ → B → List V) → (ℕ → B → B) → List ℕ → B → List V
 over v e [] b = []

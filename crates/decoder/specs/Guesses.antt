@@ -1,5 +1,5 @@
 -- The guesses that a search may start from.
-use Rattle.std.specs.Prelude.{◌≡◌, ℕ, ◌-◌, ◌*◌, ◌<◌, ◌≤◌, ◌⊎◌, List, ◌++◌, length, drop, ℤ, pos, ◌-ℤ◌, ◌*ℤ◌, Some, Option, slice_index, slice_index_or, unsigned_abs}
+use Rattle.std.specs.Prelude.{◌≡◌, ℕ, ◌-◌, ◌<◌, ◌≤◌, ◌⊎◌, List, ◌++◌, length, drop, ℤ, pos, ◌-ℤ◌, ◌*ℤ◌, Some, slice_index, slice_index_or, unsigned_abs}
 use Rattle.std.specs.Option.{option_map}
 use Rattle.decoder.specs.Sequences.{Problem, leg_of, MayBe, Feasible, Cheaper}
 

@@ -1,5 +1,5 @@
 -- Worked rows: what the definitions come to for some tasks of one stage. Levels are shown, not positions.
-use Rattle.std.specs.Prelude.{◌≡◌, ℕ, zero, suc, min, true, List, [], ◌∷◌, length, take, ℤ, pos, neg_ℤ, None, nat_le}
+use Rattle.std.specs.Prelude.{◌≡◌, ℕ, suc, min, true, List, [], ◌∷◌, length, take, ℤ, pos, neg_ℤ, None, nat_le}
 use Rattle.legs.specs.Model.{LegModel}
 use Rattle.legs.specs.Kinds.{stepped, listed, barred}
 use Rattle.legs.specs.Measure.{MeasureModel}

@@ -1,7 +1,7 @@
 -- What follows when a file is not refused.
-use Rattle.std.proofs.Common.{◌≡◌, ℕ, zero, suc, ◌+◌, ◌*◌, ◌<◌, ◌≤◌, Bool, true, false, not, ◌&&◌, ◌||◌, eqb, leb, List, [], ◌∷◌, ◌++◌, map, length, get_or, take, drop, ℤ, pos, ◌≤ℤ◌, Some, None, sym, refl, ap, ◌∙◌, subst, arith}
+use Rattle.std.proofs.Common.{◌≡◌, ℕ, zero, suc, ◌+◌, ◌*◌, ◌<◌, ◌≤◌, Bool, true, false, not, ◌&&◌, ◌||◌, eqb, List, [], ◌∷◌, ◌++◌, map, length, get_or, take, drop, ℤ, pos, ◌≤ℤ◌, None, sym, refl, ap, ◌∙◌, subst, arith}
 use lib.Signed.{le_z}
-use Rattle.std.specs.List.{range_with_len, flat_map}
+use Rattle.std.specs.List.{range_with_len}
 use Rattle.std.proofs.lemmas.List.FromFn.{get_or-map-range_with_len}
 use Rattle.std.proofs.lemmas.List.{drop_more, get_or-take, take_all, length-drop}
 use Rattle.std.proofs.lemmas.Int.{ints}
@@ -10,8 +10,8 @@ use Rattle.std.proofs.lemmas.Bool.Decides.{nat_tests}
 use Rattle.fault.specs.Refusals.{unless}
 use Rattle.fault.proofs.Answered.{neither, met}
 use Rattle.file.specs.Entered.{Entered}
-use Rattle.file.specs.File.{TableData, le4, word, offset, header, horizon_of, version_of, marked, file_length, file_fault, header_refusal, entry_refusal, entries_refusal, tables_of, file_of}
-use Rattle.file.specs.Layout.{rows, columns, above, size, ahead, Limited, limited, least, greatest, count, index, cell, InTable, place, cells, on_diagonal}
+use Rattle.file.specs.File.{TableData, word, offset, header, horizon_of, version_of, file_length, file_fault, header_refusal, entry_refusal, entries_refusal, tables_of, file_of}
+use Rattle.file.specs.Layout.{rows, size, ahead, Limited, limited, least, greatest, count, index, cell, InTable, place, cells, on_diagonal}
 use Rattle.file.specs.declared.layout.Cell.{Cell}
 use Rattle.file.specs.declared.layout.Table.{Table}
 use Rattle.file.specs.declared.layout.Table.TheVariants.{Weight, Gamma, Upsilon, Unconstrained, Target, Generator}

@@ -1,6 +1,6 @@
 -- How many entries tables have, for each horizon and in front of each row.
-use Rattle.std.proofs.Common.{◌≡◌, ℕ, zero, suc, ◌+◌, ◌*◌, ◌/◌, ◌<◌, ◌≤◌, sym, refl, subst, mul_comm, add-mul, one-mul, mul-one, mul-add, arith, lit≤}
-use Rattle.file.specs.Layout.{rows, columns, above, size, ahead, count}
+use Rattle.std.proofs.Common.{◌≡◌, ℕ, zero, suc, ◌+◌, ◌*◌, ◌/◌, ◌≤◌, sym, refl, subst, add-mul, one-mul, mul-one, mul-add, arith, lit≤}
+use Rattle.file.specs.Layout.{columns, above, ahead, count}
 use Rattle.file.specs.declared.layout.Table.{Table}
 use Rattle.file.specs.declared.layout.Table.TheVariants.{Weight, Gamma, Upsilon, Unconstrained, Target, Generator}
 

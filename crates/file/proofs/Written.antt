@@ -1,5 +1,5 @@
 -- What is written reads back.
-use Rattle.std.proofs.Common.{◌≡◌, ℕ, zero, suc, ◌+◌, ◌*◌, ◌<◌, ◌≤◌, Bool, true, false, not, ◌&&◌, ◌||◌, eqb, leb, List, [], ◌∷◌, ◌++◌, map, length, get_or, take, drop, ℤ, pos, ◌≤ℤ◌, Some, None, Option, sym, refl, ap, ◌∙◌, subst, arith, w32, SFits, eq-eqb}
+use Rattle.std.proofs.Common.{◌≡◌, ℕ, suc, ◌+◌, ◌*◌, ◌<◌, Bool, true, false, not, ◌&&◌, ◌||◌, eqb, leb, List, [], ◌∷◌, ◌++◌, map, length, get_or, take, drop, ℤ, pos, ◌≤ℤ◌, None, Option, sym, refl, ap, ◌∙◌, subst, arith, w32, SFits, eq-eqb}
 use lib.Signed.{le_z}
 use Rattle.std.specs.List.{range_with_len, flat_map}
 use Rattle.std.proofs.lemmas.List.FromFn.{get_or-map-range_with_len, length-map-range_with_len}
@@ -11,7 +11,7 @@ use Rattle.std.proofs.lemmas.Bool.Decides.{nat_tests}
 use Rattle.fault.specs.Refusals.{first_of, unless}
 use Rattle.fault.specs.declared.Fault.{Fault}
 use Rattle.file.specs.File.{TableData, Sound, entry, le4, word, offset, header, file_length, file_of, file_fault, header_refusal, entry_refusal, entries_refusal, file_refusal, tables_of}
-use Rattle.file.specs.Layout.{rows, Limited, limited, least, greatest, count, index, cell, CellOf, place, cells, on_diagonal, is_generator}
+use Rattle.file.specs.Layout.{rows, Limited, limited, least, greatest, count, index, cell, CellOf, cells, on_diagonal, is_generator}
 use Rattle.file.specs.Tables.{Written, data_of}
 use Rattle.file.specs.declared.layout.Cell.{Cell}
 use Rattle.file.specs.declared.layout.Table.{Table}

@@ -1,6 +1,6 @@
 -- The layout of a table file for a horizon of n stages: which tables, of which shape, in which order, within which limits.
 -- Rows, columns and entries are numbered from 0.
-use Rattle.std.specs.Prelude.{◌≡◌, ℕ, zero, suc, ◌+◌, ◌*◌, ◌<◌, Bool, true, false, ◌&&◌, List, [], ◌∷◌, ◌++◌, map, length, ℤ, pos, neg_ℤ, ◌≤ℤ◌, ◌==◌, int_le}
+use Rattle.std.specs.Prelude.{◌≡◌, ℕ, zero, suc, ◌+◌, ◌*◌, ◌<◌, Bool, true, false, ◌&&◌, List, [], ◌∷◌, ◌++◌, map, ℤ, pos, neg_ℤ, ◌≤ℤ◌, ◌==◌, int_le}
 use Rattle.std.specs.List.{range_with_len, flat_map}
 use Rattle.file.specs.declared.layout.Cell.{Cell}
 use Rattle.file.specs.declared.layout.Table.{Table}

@@ -1,5 +1,5 @@
 -- The loop over a table's entries.
-use Rattle.std.proofs.Common.{◌≡◌, ℕ, ◌<◌, ◌≤◌, List, [], ◌∷◌, length, get_or, take, ℤ, pos, Some, fold, sym, refl, ap, ◌∙◌, arith}
+use Rattle.std.proofs.Common.{◌≡◌, ℕ, ◌<◌, ◌≤◌, List, [], ◌∷◌, length, get_or, take, ℤ, pos, Some, fold, ap, ◌∙◌, arith}
 use Rattle.std.proofs.lemmas.List.{take_all}
 use Rattle.inspect.specs.Extremes.{extremes_of, including}
 use Rattle.inspect.specs.declared.survey.Extremes.{Extremes}

@@ -1,5 +1,5 @@
 -- How high a cost can grow.
-use Rattle.std.proofs.Common.{◌≡◌, ℕ, zero, suc, ◌+◌, ◌*◌, ◌<◌, ◌≤◌, max, List, [], ◌∷◌, length, replicate, ℤ, pos, nat_abs, refl, ap, le_refl, suc-mul, mul-le-mul, arith}
+use Rattle.std.proofs.Common.{◌≡◌, ℕ, zero, suc, ◌+◌, ◌*◌, ◌≤◌, List, [], ◌∷◌, length, replicate, ℤ, pos, nat_abs, refl, ap, le_refl, suc-mul, mul-le-mul, arith}
 use Rattle.std.specs.List.{AllByRecursion as All}
 use Rattle.legs.specs.Measure.{MeasureModel, Reached, Small, cost_of, most_difference}
 use Rattle.legs.specs.Measures.{squared, peak_first}

@@ -1,5 +1,5 @@
 -- The costs that rows reach.
-use Rattle.std.specs.Prelude.{◌≡◌, ℕ, ◌+◌, ◌≤◌, ◌∷◌, ℤ, refl}
+use Rattle.std.specs.Prelude.{ℕ, ◌+◌, ◌≤◌, ◌∷◌, ℤ}
 use Rattle.std.proofs.Common.{ap, arith}
 use Rattle.legs.specs.Measure.{MeasureModel, Reached, Small}
 

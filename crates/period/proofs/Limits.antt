@@ -1,5 +1,5 @@
 -- How large the numbers of a period are, from the limits of the tables.
-use Rattle.std.proofs.Common.{ℕ, ◌*◌, ◌<◌, ◌≤◌, Bool, true, false, cond, ltb, List, get_or, ℤ, pos, ◌*ℤ◌, zero-le, arith, lit≤}
+use Rattle.std.proofs.Common.{ℕ, ◌*◌, ◌<◌, Bool, true, false, cond, ltb, List, get_or, ℤ, pos, ◌*ℤ◌, zero-le, arith, lit≤}
 use Rattle.std.proofs.lemmas.Int.{ints}
 use Rattle.file.specs.File.{Sound, TableData, entry}
 use Rattle.file.specs.Layout.{Limited, columns, rows}

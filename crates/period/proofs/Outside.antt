@@ -1,11 +1,11 @@
 -- The lowest place that fails a test, and what follows where none does.
-use Rattle.std.proofs.Common.{◌≡◌, ℕ, zero, suc, ◌+◌, ◌*◌, ◌<◌, ◌≤◌, Bool, true, false, cond, List, [], ◌∷◌, ◌++◌, length, get_or, ℤ, pos, neg_ℤ, nat_abs, ◌≤ℤ◌, Some, None, Option, sym, refl, ap, ◌∙◌, ⊎_elim, zero-le, arith, w8, SFits, to_z, of_z}
+use Rattle.std.proofs.Common.{◌≡◌, ℕ, zero, suc, ◌+◌, ◌*◌, ◌<◌, Bool, true, false, cond, List, [], ◌∷◌, ◌++◌, length, get_or, ℤ, pos, neg_ℤ, nat_abs, ◌≤ℤ◌, Some, None, Option, sym, refl, ap, ◌∙◌, ⊎_elim, zero-le, arith, w8, SFits, to_z, of_z}
 use Rattle.std.proofs.str.Laws.{order}
 use Rattle.std.proofs.lemmas.List.{get_or-append-add, get_or_append_left, get_or_past, length-append}
 use Rattle.std.proofs.lemmas.Int.{ints, to_z-of_z}
 use Rattle.std.proofs.lemmas.Bool.{eq-eqb, leb-true}
 use Rattle.fault.specs.Refusals.{first_of, lowest_failing}
-use Rattle.period.specs.Inputs.{allowed, allowed_at, first_outside, inputs_refusal}
+use Rattle.period.specs.Inputs.{allowed_at, first_outside, inputs_refusal}
 use Rattle.period.specs.Sums.{AllWithin, Within}
 use Rattle.period.proofs.Bounds.{within_as}
 

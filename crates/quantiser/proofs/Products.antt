@@ -1,5 +1,5 @@
 -- Whole numbers times a natural one: what a step of 1 adds, and how order carries over.
-use Rattle.std.proofs.Common.{◌≡◌, ℕ, zero, suc, ◌+◌, ◌*◌, ◌/◌, ◌<◌, ◌≤◌, ℤ, pos, negsuc, ◌+ℤ◌, ◌-ℤ◌, ◌*ℤ◌, neg_ℤ, nat_abs, ◌≤ℤ◌, ◌<ℤ◌, sym, refl, ap, ◌∙◌, subst, mul_assoc, mul_comm, add-mul, zero-mul, div-mul-le_self, arith}
+use Rattle.std.proofs.Common.{◌≡◌, ℕ, zero, suc, ◌+◌, ◌*◌, ◌/◌, ◌<◌, ℤ, pos, negsuc, ◌+ℤ◌, ◌-ℤ◌, ◌*ℤ◌, neg_ℤ, nat_abs, ◌≤ℤ◌, ◌<ℤ◌, sym, refl, ap, ◌∙◌, subst, mul_assoc, mul_comm, add-mul, zero-mul, div-mul-le_self, arith}
 use native.Mathlib.Nat.{lt-div-mul-add}
 use lib.IntN.{+ℤ_one, -ℤ_one, +ℤ_idr, suc_ℤ-*ℤ, pred_ℤ-*ℤ, pos-*ℤ-pos, negsuc-*ℤ-pos}
 use Rattle.std.specs.Int.{int_div_euclid}

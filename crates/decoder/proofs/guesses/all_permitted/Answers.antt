@@ -1,5 +1,4 @@
-use Rattle.std.proofs.Common.{◌≡◌, true, false, sym, refl, ap, ◌∙◌, arith}
-use Rattle.decoder.specs.Computed.{permitted_to, may_be}
+use Rattle.std.proofs.Common.{true, sym, refl, ◌∙◌, arith}
 use Rattle.decoder.specs.Tasks.{entries_of, unpriced}
 use Rattle.decoder.proofs.Guess.{permitted_more}
 use Rattle.decoder.proofs.Starts.{permitted_fails}

@@ -1,4 +1,4 @@
-use Rattle.std.proofs.Common.{◌≡◌, sym, ap, ◌∙◌}
+use Rattle.std.proofs.Common.{◌∙◌}
 use Rattle.decoder.specs.Tasks.{unpriced}
 use Rattle.decoder.proofs.Guess.{near_take, near_skip}
 use Rattle.decoder.proofs.Posed.{by_permits}

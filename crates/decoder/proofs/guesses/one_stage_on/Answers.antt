@@ -1,4 +1,4 @@
-use Rattle.std.proofs.Common.{◌≡◌, ◌<◌, ◌≤◌, length, sym, ap, ◌∙◌, subst, arith, length-set}
+use Rattle.std.proofs.Common.{◌≡◌, ◌<◌, ◌≤◌, length, sym, arith, length-set}
 use Rattle.decoder.specs.Tasks.{entries_of}
 use Rattle.decoder.proofs.Guess.{move_low, move_high, move_end}
 use Rattle.decoder.proofs.Searching.{clear_set}

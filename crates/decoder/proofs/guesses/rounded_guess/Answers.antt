@@ -1,4 +1,4 @@
-use Rattle.std.proofs.Common.{◌≡◌, ◌<◌, length, sym, ap, ◌∙◌, arith, length-set}
+use Rattle.std.proofs.Common.{◌<◌, length, arith, length-set}
 use Rattle.decoder.specs.Tasks.{entries_of, unpriced}
 use Rattle.decoder.proofs.Guess.{rounded_step}
 use Rattle.decoder.proofs.Searching.{clear_set}

@@ -1,4 +1,4 @@
-use Rattle.std.proofs.Common.{◌≡◌, ◌-ℤ◌, ap, ◌∙◌}
+use Rattle.std.proofs.Common.{◌-ℤ◌, ap, ◌∙◌}
 use Rattle.decoder.proofs.Signs.{small_bits, sub_fits, sub_is}
 use Rattle.decoder.proofs.rows.difference.Goals as goal
 

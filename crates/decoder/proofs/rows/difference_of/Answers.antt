@@ -1,5 +1,4 @@
 use Rattle.std.proofs.Common.{arith}
-use Rattle.decoder.specs.Tasks.{unpriced}
 use Rattle.decoder.proofs.Posed.{bounds}
 use Rattle.decoder.proofs.Reach.{left_bits, left_bits_small, row_bits, row_bits_small}
 use Rattle.decoder.proofs.rows.difference_of.Goals as goal

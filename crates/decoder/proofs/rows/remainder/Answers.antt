@@ -1,4 +1,4 @@
-use Rattle.std.proofs.Common.{◌≡◌, ℤ, ◌-ℤ◌, ap, ◌∙◌, arith}
+use Rattle.std.proofs.Common.{ℤ, ◌-ℤ◌, ap, ◌∙◌, arith}
 use Rattle.legs.specs.Measure.{Small}
 use Rattle.decoder.specs.Sequences.{left_over}
 use Rattle.decoder.specs.Tasks.{unpriced}

@@ -1,5 +1,4 @@
-use Rattle.std.proofs.Common.{◌≡◌, ◌+◌, ◌*◌, ◌/◌, ◌%◌, ◌≤◌, get_or, pos, ◌*ℤ◌, sym, ◌∙◌, subst, mul-le-mul, arith, rules}
-use Rattle.decoder.specs.Limits.{Within}
+use Rattle.std.proofs.Common.{◌≡◌, ◌+◌, ◌*◌, ◌%◌, ◌≤◌, ◌*ℤ◌, mul-le-mul, arith, rules}
 use Rattle.decoder.specs.Sequences.{coupling}
 use Rattle.decoder.proofs.Reach.{product_within}
 use Rattle.decoder.proofs.Signs.{passed_on}

@@ -1,12 +1,10 @@
-use Rattle.std.proofs.Common.{◌≡◌, ℕ, ◌+◌, ◌-◌, ◌<◌, ◌≤◌, length, get_or, replicate, ℤ, pos, sym, refl, ap, ◌∙◌, subst, arith, w64, to_z, of_z, rules}
+use Rattle.std.proofs.Common.{◌+◌, get_or, replicate, pos, sym, refl, ◌∙◌, subst, arith}
 use borrow.Author.Rules.{scaled_Fits}
-use Rattle.std.proofs.lemmas.List.{get_or-set_same}
 use Rattle.legs.specs.Measure.{Small}
-use Rattle.decoder.specs.Tasks.{posed, entries_of}
 use Rattle.decoder.proofs.Posed.{sound, by_count, by_permits}
 use Rattle.decoder.proofs.Promised.{told}
 use Rattle.decoder.proofs.Reach.{bounded, left_bits}
-use Rattle.decoder.proofs.Searching.{all_zero, begins, low_size, inside, reached_here, reached_best, reached_next, left_small, row_is, row_small, priced, open_by, do_skip, do_back, low_before, do_over, do_full, do_down, do_stop, do_end}
+use Rattle.decoder.proofs.Searching.{all_zero, begins, inside, reached_here, reached_best, reached_next, left_small, row_is, row_small, priced, open_by, do_skip, do_back, low_before, do_over, do_full, do_down, do_stop, do_end}
 use Rattle.decoder.proofs.Signs.{small_bits}
 use Rattle.decoder.proofs.search.search_from.Goals as goal
 

@@ -1,4 +1,4 @@
-use Rattle.std.proofs.Common.{◌≡◌, ℕ, suc, ◌+◌, ◌-◌, ◌*◌, length, get_or}
+use Rattle.std.proofs.Common.{suc, ◌+◌, ◌-◌, ◌*◌, get_or}
 use Rattle.legs.specs.Model.{most_positions}
 use Rattle.decoder.specs.Tasks.{posed}
 use Rattle.decoder.proofs.Searching.{Stands}

@@ -1,4 +1,4 @@
-use Rattle.std.proofs.Common.{◌^◌, ◌<◌, sym, ◌∙◌, arith, pow_mono}
+use Rattle.std.proofs.Common.{◌^◌, ◌<◌, sym, ◌∙◌, arith}
 use Rattle.std.proofs.lemmas.Bool.{le-ltb}
 use Rattle.legs.specs.Masks.{no_high_bit}
 use Rattle.legs.proofs.listed.has_bit.Goals as goal

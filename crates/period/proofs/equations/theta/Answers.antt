@@ -1,7 +1,6 @@
 use Rattle.std.proofs.Common.{◌^◌, get_or, pos, arith}
 use Rattle.file.specs.Tables.{data_of}
 use Rattle.file.proofs.Written.{sound_data}
-use Rattle.period.specs.Equations.{error_term, weight_term}
 use Rattle.period.specs.Sums.{Within}
 use Rattle.period.proofs.Bounds.{difference_fits, difference_is}
 use Rattle.period.proofs.Limits.{error_term_within, weight_term_within}

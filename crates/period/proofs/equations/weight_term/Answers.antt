@@ -1,4 +1,4 @@
-use Rattle.std.proofs.Common.{cond, ltb, get_or, pos, sym, ◌∙◌, arith}
+use Rattle.std.proofs.Common.{get_or, pos, sym, ◌∙◌, arith}
 use Rattle.std.proofs.lemmas.Int.{ints}
 use Rattle.std.proofs.lemmas.Bool.{cond-false, cond-true, le-ltb, lt-ltb}
 use Rattle.period.specs.Equations.{weight_term}

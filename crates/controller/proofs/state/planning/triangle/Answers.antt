@@ -1,4 +1,4 @@
-use Rattle.std.proofs.Common.{length, ap, ◌∙◌, arith}
+use Rattle.std.proofs.Common.{ap, ◌∙◌}
 use Rattle.file.specs.File.{table_reading}
 use Rattle.file.specs.Tables.{data_of}
 use Rattle.file.specs.declared.layout.Table.TheVariants.{Generator}

@@ -1,4 +1,4 @@
-use Rattle.std.proofs.Common.{length, get_or, pos, arith, w32, SFits, rules}
+use Rattle.std.proofs.Common.{get_or, pos, arith, w32, SFits, rules}
 use Rattle.std.proofs.lemmas.Int.{to_z-of_z}
 use Rattle.period.proofs.Fill.{filled_more, filled_none}
 use Rattle.controller.proofs.Padding.{filled_list}

@@ -1,4 +1,4 @@
-use Rattle.std.proofs.Common.{◌≤◌, length, get_or, pos}
+use Rattle.std.proofs.Common.{get_or, pos}
 use Rattle.period.specs.Sums.{Filled}
 use Rattle.controller.proofs.state.planning.with_zeros.Given as goal
 

@@ -1,4 +1,4 @@
-use Rattle.std.proofs.Common.{◌≡◌, ◌+◌, ◌<◌, ◌≤◌, arith}
+use Rattle.std.proofs.Common.{◌+◌, ◌<◌, ◌≤◌}
 use Rattle.file.specs.Layout.{rows, columns}
 use Rattle.file.proofs.Walk.{next_row, next_table}
 use Rattle.file.proofs.layout.Cell.next.Goals as goal

@@ -1,4 +1,4 @@
-use Rattle.std.proofs.Common.{arith, rules}
+use Rattle.std.proofs.Common.{arith}
 use Rattle.file.proofs.Inside.{row_inside}
 use Rattle.file.proofs.layout.Table.span.Goals as goal
 

@@ -1,5 +1,4 @@
 use Rattle.std.proofs.Common.{ℕ, ◌-◌, take, drop, ap, ◌∙◌, arith}
-use Rattle.file.specs.File.{table_reading}
 use Rattle.file.specs.Layout.{count, size}
 use Rattle.file.specs.Tables.{data_of}
 use Rattle.file.proofs.Inside.{part_value}

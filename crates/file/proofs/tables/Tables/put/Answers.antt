@@ -1,4 +1,4 @@
-use Rattle.std.proofs.Common.{◌≡◌, ◌<◌, length, get_or, pos, arith, w32, rules}
+use Rattle.std.proofs.Common.{◌<◌, length, get_or, pos, arith, w32, rules}
 use Rattle.std.proofs.lemmas.Int.{to_z-of_z}
 use Rattle.file.proofs.Sizes.{count_bound}
 use Rattle.file.proofs.Written.{whole, word_more}

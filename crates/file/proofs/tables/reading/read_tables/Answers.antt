@@ -1,11 +1,9 @@
-use Rattle.std.proofs.Common.{◌≡◌, ℕ, ◌<◌, List, get_or, ℤ, None, Ok, Option, sym, ap, ◌∙◌, subst, rules}
+use Rattle.std.proofs.Common.{◌≡◌, ℕ, ◌<◌, List, get_or, ℤ, None, Ok, ap, ◌∙◌, subst, rules}
 use Rattle.fault.proofs.Answered.{granted}
 use Rattle.fault.specs.Refusals.{Answers}
-use Rattle.fault.specs.declared.Fault.{Fault}
 use Rattle.file.specs.Entered.{Entered}
-use Rattle.file.specs.File.{entries_refusal, file_of, horizon_of, tables_of}
+use Rattle.file.specs.File.{entries_refusal, file_of, horizon_of}
 use Rattle.file.specs.Layout.{cells, count}
-use Rattle.file.specs.Tables.{data_of}
 use Rattle.file.proofs.Accepted.{all_limited, diagonal_positive, own_file, same_tables}
 use Rattle.file.proofs.tables.reading.read_tables.Goals as goal
 

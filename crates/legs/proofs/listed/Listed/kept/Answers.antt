@@ -1,4 +1,4 @@
-use Rattle.std.proofs.Common.{◌≡◌, ◌<◌, ◌≤◌, length, sym, ap, ◌∙◌, arith}
+use Rattle.std.proofs.Common.{◌≡◌, ◌<◌, length, arith}
 use Rattle.legs.specs.Refusals.{level_stands, mask_stands}
 use Rattle.legs.proofs.Lowest.{none_fails}
 use Rattle.legs.proofs.listed.Listed.kept.Goals as goal

@@ -1,4 +1,4 @@
-use Rattle.std.proofs.Common.{arith, lit<}
+use Rattle.std.proofs.Common.{lit<}
 use Rattle.legs.proofs.Bounds.{squared_bound, squared_reached}
 use Rattle.legs.proofs.squared.Squared.highest.Goals as goal
 

@@ -1,4 +1,4 @@
-use Rattle.std.proofs.Common.{◌≡◌, ◌*◌, nat_abs, ap, ◌∙◌, arith, w64}
+use Rattle.std.proofs.Common.{◌*◌, nat_abs, ap, ◌∙◌, arith, w64}
 use Rattle.std.proofs.lemmas.Int.{to_z-of_z}
 use Rattle.legs.proofs.Bounds.{square_small, squared_bound}
 use Rattle.legs.proofs.squared.SquaredMeasure.after.Goals as goal
