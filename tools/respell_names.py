@@ -32,6 +32,18 @@ OTHER = {
 }
 
 
+# Names under which a file takes a library's word or another module's, where the toolchain's script left an odd one.
+ALIASES = {
+    "rows_of_lem": "rows_of",
+    "ahead_of_lem": "ahead_of",
+    "start_of_lem": "start_of",
+    "number_of_lem": "number_of",
+    "Counts-of": "counts_of",
+    "Cells-of": "cells_of",
+    "type_size": "size_of",
+}
+
+
 def texts(root):
     for folder, dirs, files in os.walk(os.path.join(root, "crates")):
         dirs[:] = sorted(d for d in dirs if d != "out")
@@ -92,6 +104,40 @@ def parts(line, rt):
     return out
 
 
+def aliases(text):
+    """The names that a file gives to what it imports, with their spelling."""
+    names = {}
+    for m in re.finditer(r"^\s*(?:ghost )?use [^{}\n]*\{([^}]*)\}", text, re.M):
+        for item in m.group(1).split(","):
+            if " as " in item:
+                name = item.split(" as ")[1].strip()
+                new = ALIASES.get(name, name.replace("-", "_"))
+                if new != name:
+                    names[name] = new
+    return names
+
+
+def respell_aliases(path):
+    """Respells a file's aliases, and has it say AllByRecursion, since All is now the library's word for another definition."""
+    text = open(path, encoding="utf-8").read()
+    names = aliases(text)
+    if re.search(r"AllByRecursion as All(?=[,}])", text):
+        text = re.sub(r"AllByRecursion as All(?=[,}])", "AllByRecursion", text)
+        names["All"] = "AllByRecursion"
+    if not names:
+        return False
+    there = set(re.findall("[^%s]+" % STOP, text))
+    for old, new in sorted(names.items()):
+        if new in there and new != "AllByRecursion":
+            print("look, the new name stands there already: %s in %s" % (new, path))
+    pattern = re.compile(r"(?<![^%s])(%s)(?![^%s])" % (STOP, "|".join(re.escape(n) for n in sorted(names, key=len, reverse=True)), STOP))
+    rt = path.endswith(".rt")
+    lines = ["".join(pattern.sub(lambda m: names[m.group(1)], t) if may else t for t, may in parts(line, rt)) for line in text.split("\n")]
+    with open(path, "w", encoding="utf-8") as f:
+        f.write("\n".join(lines))
+    return True
+
+
 def imported(text, crates):
     """The names that a file takes from a library of the toolchain."""
     own = re.compile(r"Rattle\.(?:%s)\." % "|".join(crates))
@@ -107,6 +153,7 @@ def imported(text, crates):
 def main():
     root = "."
     crates = [n for n in sorted(os.listdir(os.path.join(root, "crates")))]
+    print("%d files with other aliases" % sum(respell_aliases(p) for p in texts(root)))
     names = definitions(root)
     turned = {n: spelled(n) for n in names if spelled(n) != n}
     if not turned:

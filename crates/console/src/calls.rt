@@ -3,7 +3,7 @@ ghost use Rattle.std.specs.Prelude.{◌≡◌, ℕ, ◌≤◌, true, List, take,
 ghost use Rattle.controller.specs.View.{Does};
 ghost use Rattle.controller.specs.declared.calls.Call.TheVariants.{Plan as PlanCall, Fire, Withdraw};
 ghost use Rattle.controller.specs.declared.calls.Reply.TheVariants.{Granted};
-ghost use Rattle.console.specs.Lines.{Asked, asked, line_refusal, step as step-asked, try as try-asked};
+ghost use Rattle.console.specs.Lines.{Asked, asked, line_refusal, step as step_asked, try as try_asked};
 ghost use Rattle.console.specs.Ready.{Complete, Done, Opened, Ready, reply_of};
 ghost use Rattle.console.specs.Requests.{Means, values_of};
 ghost use Rattle.console.specs.Said.{Responds, said};
@@ -57,7 +57,7 @@ fn plan(ctl: &mut Npc, numbers: &Numbers) -> Result<(Order, Option<Reading<u64>>
 fn step(ctl: &mut Npc, numbers: &Numbers) -> Result<Option<Reading<u64>>, Fault>
     requires ready { Ready ctl.old }
     requires some { 2 ≤ numbers.now.count }
-    ensures { (file : List ℕ) → Done file (step-asked (values_of numbers.now)) ctl.old (reply_of result) ctl.new }
+    ensures { (file : List ℕ) → Done file (step_asked (values_of numbers.now)) ctl.old (reply_of result) ctl.new }
 {
     let (order, plan) = plan(ctl, numbers)?;
     fire(ctl, order);
@@ -68,7 +68,7 @@ fn step(ctl: &mut Npc, numbers: &Numbers) -> Result<Option<Reading<u64>>, Fault>
 fn try_out(ctl: &mut Npc, numbers: &Numbers) -> Result<Option<Reading<u64>>, Fault>
     requires ready { Ready ctl.old }
     requires some { 2 ≤ numbers.now.count }
-    ensures { (file : List ℕ) → Done file (try-asked (values_of numbers.now)) ctl.old (reply_of result) ctl.new }
+    ensures { (file : List ℕ) → Done file (try_asked (values_of numbers.now)) ctl.old (reply_of result) ctl.new }
 {
     let (order, plan) = plan(ctl, numbers)?;
     withdraw(ctl, order);

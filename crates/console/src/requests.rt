@@ -2,7 +2,7 @@
 ghost use Rattle.std.specs.Prelude.{◌≡◌, ℕ, ◌+◌, ◌-◌, ◌≤◌, length, pos, slice_index_or};
 ghost use Rattle.std.specs.Str.{bytes_eq};
 ghost use Rattle.fault.specs.Refusals.{Answers, first_of};
-ghost use Rattle.console.specs.Lines.{arguments_refusal, asked, asks, command_refusal, commanded, count_refusal, left_over, line_refusal, named_phase, numbers_refusal, values, verb as verb-of};
+ghost use Rattle.console.specs.Lines.{arguments_refusal, asked, asks, command_refusal, commanded, count_refusal, left_over, line_refusal, named_phase, numbers_refusal, values, verb as verb_of};
 ghost use Rattle.console.specs.Requests.{Means, MeansMaybe, NumbersRead, values_of};
 ghost use Rattle.console.specs.Tokens.{end_column, left};
 ghost use Rattle.console.specs.Words.{words as words_of};
@@ -47,7 +47,7 @@ fn is(word: &[u8], name: &[u8]) -> bool
 
 // The command that a word names, if it names one.
 fn named_verb(word: &[u8]) -> Option<Verb>
-    ensures { result ≡ verb-of word.now }
+    ensures { result ≡ verb_of word.now }
 {
     if is(word, b"LOAD") {
         Some(Verb::Load)
@@ -154,7 +154,7 @@ fn with_arguments(verb: Verb, words: &mut Words) -> Result<Request, Fault>
 
 // What the first word of a line asks for, with the words behind it.
 fn commanded_by(column: usize, word: &[u8], words: &mut Words) -> Result<Option<Request>, Fault>
-    ensures { Answers (command_refusal (verb-of word.now) column (end_column words.old) (left words.old)) (λ q. MeansMaybe q (commanded (verb-of word.now) (left words.old))) result }
+    ensures { Answers (command_refusal (verb_of word.now) column (end_column words.old) (left words.old)) (λ q. MeansMaybe q (commanded (verb_of word.now) (left words.old))) result }
 {
     let Some(verb) = named_verb(word) else {
         return Err(console_fault(41, column));

@@ -1,5 +1,5 @@
 // A leg of a user's own.
-ghost use Rattle.custom.specs.Climbing.{climbing as climbing-model};
+ghost use Rattle.custom.specs.Climbing.{climbing as climbing_model};
 ghost use Rattle.std.proofs.Common.{rules};
 
 use legs::leg::Leg;
@@ -9,7 +9,7 @@ use legs::leg::Leg;
 pub struct Climbing;
 
 impl Leg for Climbing {
-    ghost model = { λ _. climbing-model };
+    ghost model = { λ _. climbing_model };
 
     ghost lawful = { Prim.search rules };
 

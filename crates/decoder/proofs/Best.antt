@@ -5,7 +5,7 @@ use mathlib.Core.List.{Memᴰ}
 use Rattle.decoder.specs.Answers.{marked}
 use Rattle.decoder.proofs.Tree.{backward}
 use Rattle.decoder.specs.declared.Mark.TheVariants.{Certified}
-use Rattle.std.specs.List.{range_with_len, flat_map, AllByRecursion as All}
+use Rattle.std.specs.List.{range_with_len, flat_map, AllByRecursion}
 use Rattle.std.proofs.lemmas.List.Elements.{filter-append}
 use Rattle.std.proofs.ByRecursion.{All-append, All-map, All-weaker}
 use Rattle.std.proofs.lemmas.List.{take_all, take_more, reverse-append}
@@ -16,51 +16,51 @@ use Rattle.decoder.proofs.Bools.{all_of, every_true, before_same, before_less}
 use Rattle.decoder.proofs.Walk.{after, seen, visits, seen_dues, after_skip, fulls_of, Rising, rising_counting, leq_refl, length_onto, fulls_long, after_fit}
 use Rattle.decoder.proofs.Pend.{afters, after_suc, folded_append}
 
-all_in : {X : Type 0} (P : X → Type 0) (xs : List X) (x : X) → All P xs → Memᴰ x xs → P x
+all_in : {X : Type 0} (P : X → Type 0) (xs : List X) (x : X) → AllByRecursion P xs → Memᴰ x xs → P x
 all_in P [] x a m = elim m [ ]
 all_in P (y ∷ ys) x a m = ⊎_elim (λ e. subst P (sym e) a.0) (λ t. all_in P ys x a.1 t) (Memᴰ.cases_cons m)
 
-all_split : {X : Type 0} (P : X → Type 0) (xs ys : List X) → All P (xs ++ ys) → All P xs × All P ys
+all_split : {X : Type 0} (P : X → Type 0) (xs ys : List X) → AllByRecursion P (xs ++ ys) → AllByRecursion P xs × AllByRecursion P ys
 all_split P [] ys a = (tt, a)
 all_split P (x ∷ xs) ys a = let r = all_split P xs ys a.1 in ((a.0, r.0), r.1)
 
-pub all_unmap : {X Y : Type 0} (P : Y → Type 0) (f : X → Y) (xs : List X) → All P (map f xs) → All (λ x. P (f x)) xs
+pub all_unmap : {X Y : Type 0} (P : Y → Type 0) (f : X → Y) (xs : List X) → AllByRecursion P (map f xs) → AllByRecursion (λ x. P (f x)) xs
 all_unmap P f [] a = tt
 all_unmap P f (x ∷ xs) a = (a.0, all_unmap P f xs a.1)
 
-pub all_unjoin : {X Y : Type 0} (P : Y → Type 0) (f : X → List Y) (xs : List X) → All P (flat_map f xs) → All (λ x. All P (f x)) xs
+pub all_unjoin : {X Y : Type 0} (P : Y → Type 0) (f : X → List Y) (xs : List X) → AllByRecursion P (flat_map f xs) → AllByRecursion (λ x. AllByRecursion P (f x)) xs
 all_unjoin P f [] a = tt
 all_unjoin P f (x ∷ xs) a = let r = all_split P (f x) (flat_map f xs) a in (r.0, all_unjoin P f xs r.1)
 
-pub all_join : {X Y : Type 0} (P : Y → Type 0) (f : X → List Y) (xs : List X) → All (λ x. All P (f x)) xs → All P (flat_map f xs)
+pub all_join : {X Y : Type 0} (P : Y → Type 0) (f : X → List Y) (xs : List X) → AllByRecursion (λ x. AllByRecursion P (f x)) xs → AllByRecursion P (flat_map f xs)
 all_join P f [] a = tt
 all_join P f (x ∷ xs) a = All-append P (f x) (flat_map f xs) a.0 (all_join P f xs a.1)
 
 -- what is counted and kept
-pub kept_low : (t : ℕ → Bool) (a n : ℕ) → All (λ p. (p < a + n) × (t p ≡ true)) (filter t (range_with_len a n))
+pub kept_low : (t : ℕ → Bool) (a n : ℕ) → AllByRecursion (λ p. (p < a + n) × (t p ≡ true)) (filter t (range_with_len a n))
 kept_low t a zero = tt
 kept_low t a (suc n) =
-    let r : All (λ p. (p < a + suc n) × (t p ≡ true)) (filter t (range_with_len (a + 1) n)) = All-weaker _ _ (λ p h. (omega (arith, h.0), h.1)) _ (kept_low t (a + 1) n) in
-    cond_both (t a) _ _ (All (λ p. (p < a + suc n) × (t p ≡ true))) (λ e. ((omega arith, e), r)) (λ _. r)
+    let r : AllByRecursion (λ p. (p < a + suc n) × (t p ≡ true)) (filter t (range_with_len (a + 1) n)) = All-weaker _ _ (λ p h. (omega (arith, h.0), h.1)) _ (kept_low t (a + 1) n) in
+    cond_both (t a) _ _ (AllByRecursion (λ p. (p < a + suc n) × (t p ≡ true))) (λ e. ((omega arith, e), r)) (λ _. r)
 
-pub kept_all : (t : ℕ → Bool) (Q : ℕ → Type 0) (a n p : ℕ) → a ≤ p → p < a + n → t p ≡ true → All Q (filter t (range_with_len a n)) → Q p
+pub kept_all : (t : ℕ → Bool) (Q : ℕ → Type 0) (a n p : ℕ) → a ≤ p → p < a + n → t p ≡ true → AllByRecursion Q (filter t (range_with_len a n)) → Q p
 kept_all t Q a zero p h k e r = absurd (omega arith)
 kept_all t Q a (suc n) p h k e r =
     ⊎_elim
-    (λ q. subst Q (sym q) (subst (λ v. All Q (cond v (a ∷ filter t (range_with_len (a + 1) n)) (filter t (range_with_len (a + 1) n)))) (ap t (sym q) ∙ e) r).0)
+    (λ q. subst Q (sym q) (subst (λ v. AllByRecursion Q (cond v (a ∷ filter t (range_with_len (a + 1) n)) (filter t (range_with_len (a + 1) n)))) (ap t (sym q) ∙ e) r).0)
     (λ q. kept_all t Q (a + 1) n p (omega arith) (omega arith) e (tail (t a) r))
     (cases_eq p a)
   where
-    tail : (v : Bool) → All Q (cond v (a ∷ filter t (range_with_len (a + 1) n)) (filter t (range_with_len (a + 1) n))) → All Q (filter t (range_with_len (a + 1) n))
+    tail : (v : Bool) → AllByRecursion Q (cond v (a ∷ filter t (range_with_len (a + 1) n)) (filter t (range_with_len (a + 1) n))) → AllByRecursion Q (filter t (range_with_len (a + 1) n))
     tail true s = s.1
     tail false s = s
 
 -- each comes before those behind it
 abbrev Sorted : List (List ℕ) → Type 0
 Sorted [] = Unit {0}
-Sorted (f ∷ fs) = All (λ g. before f g ≡ true) fs × Sorted fs
+Sorted (f ∷ fs) = AllByRecursion (λ g. before f g ≡ true) fs × Sorted fs
 
-sorted_append : (xs ys : List (List ℕ)) → Sorted xs → Sorted ys → All (λ x. All (λ y. before x y ≡ true) ys) xs → Sorted (xs ++ ys)
+sorted_append : (xs ys : List (List ℕ)) → Sorted xs → Sorted ys → AllByRecursion (λ x. AllByRecursion (λ y. before x y ≡ true) ys) xs → Sorted (xs ++ ys)
 sorted_append [] ys a b c = b
 sorted_append (x ∷ xs) ys a b c = (All-append _ xs ys a.0 c.0, sorted_append xs ys a.1 b c.1)
 
@@ -80,30 +80,30 @@ module _ {C : Type 0} (R : Rules C) where
   sorted_fulls (suc d) s = sorted_of d (sorted_fulls d) s (moves R s) (rising_counting (R.permits s) 0 (R.size s - 0))
 
   -- the list has the permitted sequences, and no others
-  pub fulls_in : (d : ℕ) (s : List ℕ) → All (λ f. (length f ≡ d) × Permitted R s f) (fulls R d s)
+  pub fulls_in : (d : ℕ) (s : List ℕ) → AllByRecursion (λ f. (length f ≡ d) × Permitted R s f) (fulls R d s)
   fulls_in zero s = ((refl, tt), tt)
   fulls_in (suc d) s =
       all_join _ (λ p. map (λ f. p ∷ f) (fulls R d (p ∷ s))) (moves R s)
       (All-weaker _ _ (λ p h. All-map _ (λ f. p ∷ f) (fulls R d (p ∷ s)) (All-weaker _ _ (λ f k. (ap suc k.0, (omega (arith, h.0), h.1, k.1))) _ (fulls_in d (p ∷ s)))) (moves R s) (kept_low (R.permits s) 0 (R.size s - 0)))
 
-  fulls_all : (d : ℕ) (s : List ℕ) (P : List ℕ → Type 0) → All P (fulls R d s) → (f : List ℕ) → length f ≡ d → Permitted R s f → P f
+  fulls_all : (d : ℕ) (s : List ℕ) (P : List ℕ → Type 0) → AllByRecursion P (fulls R d s) → (f : List ℕ) → length f ≡ d → Permitted R s f → P f
   fulls_all zero s P a [] e h = a.0
   fulls_all zero s P a (p ∷ f) e h = absurd (omega arith)
   fulls_all (suc d) s P a [] e h = absurd (omega arith)
   fulls_all (suc d) s P a (p ∷ f) e h =
-      fulls_all d (p ∷ s) (λ g. P (p ∷ g)) (all_unmap P (λ g. p ∷ g) (fulls R d (p ∷ s)) (kept_all (R.permits s) (λ q. All P (map (λ g. q ∷ g) (fulls R d (q ∷ s)))) 0 (R.size s - 0) p (omega arith) (omega (arith, h.0)) h.1 (all_unjoin P (λ q. map (λ g. q ∷ g) (fulls R d (q ∷ s))) (moves R s) a))) f (omega arith) h.2
+      fulls_all d (p ∷ s) (λ g. P (p ∷ g)) (all_unmap P (λ g. p ∷ g) (fulls R d (p ∷ s)) (kept_all (R.permits s) (λ q. AllByRecursion P (map (λ g. q ∷ g) (fulls R d (q ∷ s)))) 0 (R.size s - 0) p (omega arith) (omega (arith, h.0)) h.1 (all_unjoin P (λ q. map (λ g. q ∷ g) (fulls R d (q ∷ s))) (moves R s) a))) f (omega arith) h.2
 
   -- where f stands to the one chosen, a
   abbrev Behind : List ℕ → List ℕ → Type 0
   Behind a f = (R.leq (R.cost (onto [] a)) (R.cost (onto [] f)) ≡ true) × ((f ≡ a) ⊎ ((before f a ≡ true) ⊎ (R.leq (R.cost (onto [] f)) (R.cost (onto [] a)) ≡ false)))
 
   abbrev Lost : List ℕ → List (List ℕ) → Type 0
-  Lost b fs = (fold (pick R) b (map (onto []) fs) ≡ b) × All (λ f. R.leq (R.cost (onto [] f)) (R.cost b) ≡ false) fs
+  Lost b fs = (fold (pick R) b (map (onto []) fs) ≡ b) × AllByRecursion (λ f. R.leq (R.cost (onto [] f)) (R.cost b) ≡ false) fs
 
   abbrev Won : List ℕ → List (List ℕ) → Type 0
-  Won b fs = (a : List ℕ) × (fold (pick R) b (map (onto []) fs) ≡ onto [] a) × Memᴰ a fs × (R.leq (R.cost (onto [] a)) (R.cost b) ≡ true) × All (Behind a) fs
+  Won b fs = (a : List ℕ) × (fold (pick R) b (map (onto []) fs) ≡ onto [] a) × Memᴰ a fs × (R.leq (R.cost (onto [] a)) (R.cost b) ≡ true) × AllByRecursion (Behind a) fs
 
-pub all_both : {X : Type 0} (P Q S : X → Type 0) → ((x : X) → P x → Q x → S x) → (xs : List X) → All P xs → All Q xs → All S xs
+pub all_both : {X : Type 0} (P Q S : X → Type 0) → ((x : X) → P x → Q x → S x) → (xs : List X) → AllByRecursion P xs → AllByRecursion Q xs → AllByRecursion S xs
 all_both P Q S h [] a b = tt
 all_both P Q S h (x ∷ xs) a b = (h x a.0 b.0, all_both P Q S h xs a.1 b.1)
 
@@ -112,7 +112,7 @@ turned : {N : ℕ} (f : List ℕ) → length f ≤ N → length (onto [] f) ≤ 
 turned f h = omega (arith, length_onto [] f)
 
 module _ {C : Type 0} (R : Rules C) {N : ℕ} (L : Lawful R N) where
-  win_step : (b f : List ℕ) (fs : List (List ℕ)) → length b ≤ N → length f ≤ N → All (λ g. length g ≤ N) fs → All (λ g. before f g ≡ true) fs → ((c : List ℕ) → length c ≤ N → Lost R c fs ⊎ Won R c fs) → (v : Bool) → R.leq (R.cost (onto [] f)) (R.cost b) ≡ v → Lost R b (f ∷ fs) ⊎ Won R b (f ∷ fs)
+  win_step : (b f : List ℕ) (fs : List (List ℕ)) → length b ≤ N → length f ≤ N → AllByRecursion (λ g. length g ≤ N) fs → AllByRecursion (λ g. before f g ≡ true) fs → ((c : List ℕ) → length c ≤ N → Lost R c fs ⊎ Won R c fs) → (v : Bool) → R.leq (R.cost (onto [] f)) (R.cost b) ≡ v → Lost R b (f ∷ fs) ⊎ Won R b (f ∷ fs)
   win_step b f fs hb hf hs s ih true e =
       let q = ap (λ w. fold (pick R) (cond w (onto [] f) b) (map (onto []) fs)) e in
       ⊎_elim
@@ -126,7 +126,7 @@ module _ {C : Type 0} (R : Rules C) {N : ℕ} (L : Lawful R N) where
       (λ t. inr (t.0, q ∙ t.1, Memᴰ.tail t.2, t.3, ((L.trans (onto [] t.0) b (onto [] f) (turned t.0 (all_in _ fs t.0 hs t.2)) hb (turned f hf) t.3 (L.total (onto [] f) b (turned f hf) hb e), inr (inl (all_in _ fs t.0 s t.2))), t.4)))
       (ih b hb)
 
-  win : (b : List ℕ) (fs : List (List ℕ)) → length b ≤ N → All (λ g. length g ≤ N) fs → Sorted fs → Lost R b fs ⊎ Won R b fs
+  win : (b : List ℕ) (fs : List (List ℕ)) → length b ≤ N → AllByRecursion (λ g. length g ≤ N) fs → Sorted fs → Lost R b fs ⊎ Won R b fs
   win b [] hb hs s = inl (refl, tt)
   win b (f ∷ fs) hb hs s = win_step b f fs hb hs.0 hs.1 s.0 (λ c hc. win c fs hc hs.1 s.1) _ refl
 
@@ -209,7 +209,7 @@ pub certain : (v : Bool) → marked v ≡ Certified → v ≡ true
 certain true e = refl
 certain false e = let z : ◌≡◌ {A = ℕ} 0 1 = cc in absurd (omega arith)
 
-every_all : {X : Type 0} (t : X → Bool) (xs : List X) → every t xs ≡ true → All (λ x. t x ≡ true) xs
+every_all : {X : Type 0} (t : X → Bool) (xs : List X) → every t xs ≡ true → AllByRecursion (λ x. t x ≡ true) xs
 every_all t [] e = tt
 every_all t (x ∷ xs) e = let p = and_parts (t x) (every t xs) e in (p.0, every_all t xs p.1)
 

@@ -1,6 +1,6 @@
 -- Tests on lists.
 use Rattle.std.proofs.Common.{◌≡◌, ℕ, ◌<◌, Bool, true, false, cond, ◌&&◌, ◌||◌, eqb, List, [], ◌∷◌, ◌++◌, map, filter, sym, refl, ap, ◌∙◌, arith}
-use Rattle.std.specs.List.{flat_map, AllByRecursion as All}
+use Rattle.std.specs.List.{flat_map, AllByRecursion}
 use Rattle.std.proofs.ByRecursion.{All-append}
 use Rattle.std.proofs.lemmas.Bool.{lt-ltb, le-ltb, eq-eqb, ne_eqb}
 use Rattle.decoder.proofs.Tree.{before}
@@ -26,11 +26,11 @@ pub absorb_right : (p q : Bool) → (p ≡ true → q ≡ true) → p ≡ (p && 
 absorb_right true q h = sym (h refl)
 absorb_right false q h = refl
 
-pub all_of : {X : Type 0} (P : X → Type 0) → ((x : X) → P x) → (xs : List X) → All P xs
+pub all_of : {X : Type 0} (P : X → Type 0) → ((x : X) → P x) → (xs : List X) → AllByRecursion P xs
 all_of P h [] = tt
 all_of P h (x ∷ xs) = (h x, all_of P h xs)
 
-pub all_joined : {X Y : Type 0} (P : Y → Type 0) (Q : X → Type 0) (f : X → List Y) → ((x : X) → Q x → All P (f x)) → (xs : List X) → All Q xs → All P (flat_map f xs)
+pub all_joined : {X Y : Type 0} (P : Y → Type 0) (Q : X → Type 0) (f : X → List Y) → ((x : X) → Q x → AllByRecursion P (f x)) → (xs : List X) → AllByRecursion Q xs → AllByRecursion P (flat_map f xs)
 all_joined P Q f h [] a = tt
 all_joined P Q f h (x ∷ xs) a = All-append P (f x) (flat_map f xs) (h x a.0) (all_joined P Q f h xs a.1)
 
@@ -43,19 +43,19 @@ module _ {X : Type 0} where
   every_map t f [] = refl
   every_map t f (y ∷ ys) = ap (λ v. t (f y) && v) (every_map t f ys)
 
-  pub every_ext : (t u : X → Bool) (xs : List X) → All (λ x. t x ≡ u x) xs → every t xs ≡ every u xs
+  pub every_ext : (t u : X → Bool) (xs : List X) → AllByRecursion (λ x. t x ≡ u x) xs → every t xs ≡ every u xs
   every_ext t u [] a = refl
   every_ext t u (x ∷ xs) a = ap (λ v. v && every t xs) a.0 ∙ ap (λ v. u x && v) (every_ext t u xs a.1)
 
-  pub every_true : (t : X → Bool) (xs : List X) → All (λ x. t x ≡ true) xs → every t xs ≡ true
+  pub every_true : (t : X → Bool) (xs : List X) → AllByRecursion (λ x. t x ≡ true) xs → every t xs ≡ true
   every_true t [] a = refl
   every_true t (x ∷ xs) a = ap (λ v. v && every t xs) a.0 ∙ every_true t xs a.1
 
-  pub kept_ext : (t u : X → Bool) (xs : List X) → All (λ x. t x ≡ u x) xs → filter t xs ≡ filter u xs
+  pub kept_ext : (t u : X → Bool) (xs : List X) → AllByRecursion (λ x. t x ≡ u x) xs → filter t xs ≡ filter u xs
   kept_ext t u [] a = refl
   kept_ext t u (x ∷ xs) a = ap (λ v. cond v (x ∷ filter t xs) (filter t xs)) a.0 ∙ ap (λ v. cond (u x) (x ∷ v) v) (kept_ext t u xs a.1)
 
-  pub kept_none : (t : X → Bool) (xs : List X) → All (λ x. t x ≡ false) xs → filter t xs ≡ []
+  pub kept_none : (t : X → Bool) (xs : List X) → AllByRecursion (λ x. t x ≡ false) xs → filter t xs ≡ []
   kept_none t [] a = refl
   kept_none t (x ∷ xs) a = ap (λ v. cond v (x ∷ filter t xs) (filter t xs)) a.0 ∙ kept_none t xs a.1
 

@@ -1,7 +1,7 @@
 -- From beginnings with their last entry first to sequences in natural order.
 use Rattle.std.proofs.Common.{◌≡◌, ℕ, zero, suc, ◌+◌, ◌-◌, ◌<◌, ◌≤◌, Bool, true, false, cond, ◌&&◌, ◌||◌, eqb, ltb, List, [], ◌∷◌, map, length, get_or, take, drop, pos, ◌+ℤ◌, ◌-ℤ◌, fold, filter, sym, refl, ap, ◌∙◌, subst, ap₂, ⊎_elim, add-one, arith}
 use mathlib.Core.List.{drop_last}
-use Rattle.std.specs.List.{AllByRecursion as All}
+use Rattle.std.specs.List.{AllByRecursion}
 use Rattle.std.proofs.ByRecursion.{All-map, All-weaker, all_kept_by, kept_by_passes}
 use Rattle.std.proofs.lemmas.List.{take_all, drop_all, drop_more, reverse-reverse, length-reverse}
 use Rattle.std.proofs.lemmas.Bool.{cases_eq}
@@ -36,18 +36,18 @@ module _ {C : Type 0} (R : Rules C) where
   Fit e r f = (0 < length f) × (length f ≤ e) × Permitted R r f
 
   -- the nodes are the permitted beginnings
-  pub nodes_are : (d : ℕ) (s : List ℕ) → All (λ f. (0 < length f) × (length f ≤ d) × Permitted R s f) (nodes R d s)
+  pub nodes_are : (d : ℕ) (s : List ℕ) → AllByRecursion (λ f. (0 < length f) × (length f ≤ d) × Permitted R s f) (nodes R d s)
   nodes_are zero s = tt
   nodes_are (suc d) s =
       all_join (Fit (suc d) s) (λ p. (p ∷ []) ∷ map (λ f. p ∷ f) (nodes R d (p ∷ s))) (moves R s)
-      (All-weaker _ (λ p. All (Fit (suc d) s) ((p ∷ []) ∷ map (λ f. p ∷ f) (nodes R d (p ∷ s)))) (λ p h. let l : p < R.size s = omega (arith, h.0) in ((omega arith, omega arith, (l, h.1, tt)), All-map (Fit (suc d) s) (λ f. p ∷ f) (nodes R d (p ∷ s)) (All-weaker (Fit d (p ∷ s)) _ (λ f k. (omega arith, omega (arith, k.1), (l, h.1, k.2))) _ (nodes_are d (p ∷ s))))) (moves R s) (kept_low (R.permits s) 0 (R.size s - 0)))
+      (All-weaker _ (λ p. AllByRecursion (Fit (suc d) s) ((p ∷ []) ∷ map (λ f. p ∷ f) (nodes R d (p ∷ s)))) (λ p h. let l : p < R.size s = omega (arith, h.0) in ((omega arith, omega arith, (l, h.1, tt)), All-map (Fit (suc d) s) (λ f. p ∷ f) (nodes R d (p ∷ s)) (All-weaker (Fit d (p ∷ s)) _ (λ f k. (omega arith, omega (arith, k.1), (l, h.1, k.2))) _ (nodes_are d (p ∷ s))))) (moves R s) (kept_low (R.permits s) 0 (R.size s - 0)))
 
-  pub nodes_all : (d : ℕ) (s : List ℕ) (Q : List ℕ → Type 0) → All Q (nodes R d s) → (f : List ℕ) → 0 < length f → length f ≤ d → Permitted R s f → Q f
+  pub nodes_all : (d : ℕ) (s : List ℕ) (Q : List ℕ → Type 0) → AllByRecursion Q (nodes R d s) → (f : List ℕ) → 0 < length f → length f ≤ d → Permitted R s f → Q f
   nodes_all zero s Q a f e k h = absurd (omega arith)
   nodes_all (suc d) s Q a [] e k h = absurd (omega arith)
-  nodes_all (suc d) s Q a (p ∷ []) e k h = (kept_all (R.permits s) (λ q. All Q ((q ∷ []) ∷ map (λ g. q ∷ g) (nodes R d (q ∷ s)))) 0 (R.size s - 0) p (omega arith) (omega (arith, h.0)) h.1 (all_unjoin Q (λ q. (q ∷ []) ∷ map (λ g. q ∷ g) (nodes R d (q ∷ s))) (moves R s) a)).0
+  nodes_all (suc d) s Q a (p ∷ []) e k h = (kept_all (R.permits s) (λ q. AllByRecursion Q ((q ∷ []) ∷ map (λ g. q ∷ g) (nodes R d (q ∷ s)))) 0 (R.size s - 0) p (omega arith) (omega (arith, h.0)) h.1 (all_unjoin Q (λ q. (q ∷ []) ∷ map (λ g. q ∷ g) (nodes R d (q ∷ s))) (moves R s) a)).0
   nodes_all (suc d) s Q a (p ∷ (x ∷ f)) e k h =
-      nodes_all d (p ∷ s) (λ g. Q (p ∷ g)) (all_unmap Q (λ g. p ∷ g) (nodes R d (p ∷ s)) (kept_all (R.permits s) (λ q. All Q ((q ∷ []) ∷ map (λ g. q ∷ g) (nodes R d (q ∷ s)))) 0 (R.size s - 0) p (omega arith) (omega (arith, h.0)) h.1 (all_unjoin Q (λ q. (q ∷ []) ∷ map (λ g. q ∷ g) (nodes R d (q ∷ s))) (moves R s) a)).1) (x ∷ f) (omega arith) (omega arith) h.2
+      nodes_all d (p ∷ s) (λ g. Q (p ∷ g)) (all_unmap Q (λ g. p ∷ g) (nodes R d (p ∷ s)) (kept_all (R.permits s) (λ q. AllByRecursion Q ((q ∷ []) ∷ map (λ g. q ∷ g) (nodes R d (q ∷ s)))) 0 (R.size s - 0) p (omega arith) (omega (arith, h.0)) h.1 (all_unjoin Q (λ q. (q ∷ []) ∷ map (λ g. q ∷ g) (nodes R d (q ∷ s))) (moves R s) a)).1) (x ∷ f) (omega arith) (omega arith) h.2
 
   long_precedes : (p : ℕ) (f : List ℕ) → 0 < length f → precedes (p ∷ []) (p ∷ f) ≡ true
   long_precedes p [] h = absurd (omega arith)
@@ -59,11 +59,11 @@ module _ {C : Type 0} (R : Rules C) where
       asc_append ((p ∷ []) ∷ map (λ f. p ∷ f) (nodes R d (p ∷ s))) (nodes_of R d s ps) (All-map _ (λ f. p ∷ f) (nodes R d (p ∷ s)) (All-weaker _ _ (λ f h. long_precedes p f h.0) _ (nodes_are d (p ∷ s))), asc_map p (nodes R d (p ∷ s)) (ih (p ∷ s))) (asc_of d ih s ps r.1)
       (past [], All-map _ (λ f. p ∷ f) (nodes R d (p ∷ s)) (all_of _ past _))
     where
-      later : (f : List ℕ) (x : ℕ) → p < x → All (λ y. precedes (p ∷ f) y ≡ true) ((x ∷ []) ∷ map (λ g. x ∷ g) (nodes R d (x ∷ s)))
+      later : (f : List ℕ) (x : ℕ) → p < x → AllByRecursion (λ y. precedes (p ∷ f) y ≡ true) ((x ∷ []) ∷ map (λ g. x ∷ g) (nodes R d (x ∷ s)))
       later f x h = (precedes_less p x f [] h, All-map (λ y. precedes (p ∷ f) y ≡ true) (λ g. x ∷ g) (nodes R d (x ∷ s)) (all_of _ (λ g. precedes_less p x f g h) _))
 
-      past : (f : List ℕ) → All (λ y. precedes (p ∷ f) y ≡ true) (nodes_of R d s ps)
-      past f = all_join (λ y. precedes (p ∷ f) y ≡ true) (λ x. (x ∷ []) ∷ map (λ g. x ∷ g) (nodes R d (x ∷ s))) ps (All-weaker (λ x. p < x) (λ x. All (λ y. precedes (p ∷ f) y ≡ true) ((x ∷ []) ∷ map (λ g. x ∷ g) (nodes R d (x ∷ s)))) (later f) ps r.0)
+      past : (f : List ℕ) → AllByRecursion (λ y. precedes (p ∷ f) y ≡ true) (nodes_of R d s ps)
+      past f = all_join (λ y. precedes (p ∷ f) y ≡ true) (λ x. (x ∷ []) ∷ map (λ g. x ∷ g) (nodes R d (x ∷ s))) ps (All-weaker (λ x. p < x) (λ x. AllByRecursion (λ y. precedes (p ∷ f) y ≡ true) ((x ∷ []) ∷ map (λ g. x ∷ g) (nodes R d (x ∷ s)))) (later f) ps r.0)
 
   pub asc_nodes : (d : ℕ) (s : List ℕ) → Ascending (nodes R d s)
   asc_nodes zero s = tt

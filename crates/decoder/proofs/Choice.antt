@@ -1,6 +1,6 @@
 -- What is chosen among the nodes visited.
 use Rattle.std.proofs.Common.{◌≡◌, ℕ, ◌≤◌, Bool, true, false, cond, eqb, ◌⊎◌, List, [], ◌∷◌, length, fold, filter, sym, refl, ap, ◌∙◌, subst, inl, inr, ⊎_elim, arith}
-use Rattle.std.specs.List.{AllByRecursion as All}
+use Rattle.std.specs.List.{AllByRecursion}
 use Rattle.std.proofs.ByRecursion.{All-weaker, kept_by_passes}
 use Rattle.std.proofs.lemmas.Bool.{eqb-true, eq-eqb, both_ways}
 use Rattle.legs.specs.Measure.{at_most}
@@ -32,12 +32,12 @@ module _ {C : Type 0} {P : Problem C} (o : Sound P) where
   Behind a f = NoDearer P a f × ((f ≡ a) ⊎ ((precedes f a ≡ true) ⊎ Dearer f a))
 
   abbrev Lost : List ℕ → List (List ℕ) → Type 0
-  Lost b fs = (fold (better P) b fs ≡ b) × All (λ f. Dearer f b) fs
+  Lost b fs = (fold (better P) b fs ≡ b) × AllByRecursion (λ f. Dearer f b) fs
 
   abbrev Won : List ℕ → List (List ℕ) → Type 0
-  Won b fs = (a : List ℕ) × (fold (better P) b fs ≡ a) × In a fs × NoDearer P a b × All (Behind a) fs
+  Won b fs = (a : List ℕ) × (fold (better P) b fs ≡ a) × In a fs × NoDearer P a b × AllByRecursion (Behind a) fs
 
-  win_step : (b f : List ℕ) (fs : List (List ℕ)) → Short b → Short f → All Short fs → All (λ g. precedes f g ≡ true) fs → ((c : List ℕ) → Short c → Lost c fs ⊎ Won c fs) → (v : Bool) → at_most P.measure (cost P f) (cost P b) ≡ v → Lost b (f ∷ fs) ⊎ Won b (f ∷ fs)
+  win_step : (b f : List ℕ) (fs : List (List ℕ)) → Short b → Short f → AllByRecursion Short fs → AllByRecursion (λ g. precedes f g ≡ true) fs → ((c : List ℕ) → Short c → Lost c fs ⊎ Won c fs) → (v : Bool) → at_most P.measure (cost P f) (cost P b) ≡ v → Lost b (f ∷ fs) ⊎ Won b (f ∷ fs)
   win_step b f fs hb hf hs s ih true e =
       let q = ap (λ w. fold (better P) (cond w f b) fs) e in
       ⊎_elim
@@ -51,7 +51,7 @@ module _ {C : Type 0} {P : Problem C} (o : Sound P) where
       (λ t. inr (t.0, q ∙ t.1, inr t.2, t.3, ((no_dearer_trans o t.0 b f (in_all Short fs t.0 hs t.2) hb hf t.3 (no_dearer_else o f b hf hb e), inr (inl (in_all (λ g. precedes f g ≡ true) fs t.0 s t.2))), t.4)))
       (ih b hb)
 
-  win : (b : List ℕ) (fs : List (List ℕ)) → Short b → All Short fs → Ascending fs → Lost b fs ⊎ Won b fs
+  win : (b : List ℕ) (fs : List (List ℕ)) → Short b → AllByRecursion Short fs → Ascending fs → Lost b fs ⊎ Won b fs
   win b [] hb hs s = inl (refl, tt)
   win b (f ∷ fs) hb hs s = win_step b f fs hb hs.0 hs.1 s.0 (λ c hc. win c fs hc hs.1 s.1) _ refl
 
@@ -65,7 +65,7 @@ module _ {C : Type 0} {P : Problem C} (o : Sound P) where
     short_full : (f : List ℕ) → length f ≡ P.entries → Short f
     short_full f e = omega (arith, o.few)
 
-    all_short : All Short Full
+    all_short : AllByRecursion Short Full
     all_short = All-weaker (λ q. is_full q ≡ true) Short (λ f e. short_full f (eqb-true (length f) P.entries e)) Full (kept_by_passes is_full visited)
 
     full : (f : List ℕ) → FullIn P visited f → In f Full
@@ -79,7 +79,7 @@ module _ {C : Type 0} {P : Problem C} (o : Sound P) where
       ties = λ f m c. absurd (both_ways _ (in_all (λ f. Dearer f start) Full f t.1 (full f m)) (ap (λ x. at_most P.measure x (cost P start)) c ∙ no_dearer_self o start (short_full start long)));
     }
 
-    won : (a : List ℕ) → In a Full → NoDearer P a start → All (Behind a) Full → Chosen P start visited a
+    won : (a : List ℕ) → In a Full → NoDearer P a start → AllByRecursion (Behind a) Full → Chosen P start visited a
     won a m l h =
         let r = kept_in is_full visited a m in
         let e : length a ≡ P.entries = eqb-true (length a) P.entries r.1 in

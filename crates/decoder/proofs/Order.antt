@@ -1,6 +1,6 @@
 -- The order of beginnings; an ascending list is settled by its members.
 use Rattle.std.proofs.Common.{◌≡◌, ℕ, zero, suc, ◌<◌, Bool, true, false, ◌&&◌, ◌||◌, eqb, ◌≢◌, ◌⊎◌, List, [], ◌∷◌, ◌++◌, map, take, filter, sym, refl, ap, ◌∙◌, subst, ap₂, inl, inr, ⊎_elim, arith}
-use Rattle.std.specs.List.{AllByRecursion as All}
+use Rattle.std.specs.List.{AllByRecursion}
 use Rattle.std.proofs.ByRecursion.{All-append, All-map, All-weaker, all_kept_by, All-take}
 use Rattle.std.proofs.lemmas.Bool.{lt-ltb, le-ltb, eq-eqb, ne_eqb, cond_both, both_ways, cases_eq, false≢true}
 use Rattle.decoder.specs.Sequences.{precedes, Ascending, In}
@@ -33,11 +33,11 @@ precedes_asym (x ∷ f) (y ∷ q) e g =
     (λ ne. ⊎_elim (λ l. both_ways _ (precedes_more x y q f l) g) (λ l. both_ways _ (precedes_more y x f q l) e) (apart x y ne))
     (cases_eq x y)
 
-pub in_all : (Q : List ℕ → Type 0) (xs : List (List ℕ)) (q : List ℕ) → All Q xs → In q xs → Q q
+pub in_all : (Q : List ℕ → Type 0) (xs : List (List ℕ)) (q : List ℕ) → AllByRecursion Q xs → In q xs → Q q
 in_all Q [] q a m = absurd m
 in_all Q (x ∷ xs) q a m = ⊎_elim (λ e. subst Q (sym e) a.0) (λ t. in_all Q xs q a.1 t) m
 
-pub all_self : (xs : List (List ℕ)) → All (λ x. In x xs) xs
+pub all_self : (xs : List (List ℕ)) → AllByRecursion (λ x. In x xs) xs
 all_self [] = tt
 all_self (x ∷ xs) = (inl refl, All-weaker _ _ (λ y h. inr h) xs (all_self xs))
 
@@ -58,7 +58,7 @@ asc_take zero xs a = tt
 asc_take (suc n) [] a = tt
 asc_take (suc n) (x ∷ xs) a = (All-take _ n xs a.0, asc_take n xs a.1)
 
-pub asc_append : (xs ys : List (List ℕ)) → Ascending xs → Ascending ys → All (λ x. All (λ y. precedes x y ≡ true) ys) xs → Ascending (xs ++ ys)
+pub asc_append : (xs ys : List (List ℕ)) → Ascending xs → Ascending ys → AllByRecursion (λ x. AllByRecursion (λ y. precedes x y ≡ true) ys) xs → Ascending (xs ++ ys)
 asc_append [] ys a b c = b
 asc_append (x ∷ xs) ys a b c = (All-append _ xs ys a.0 c.0, asc_append xs ys a.1 b c.1)
 

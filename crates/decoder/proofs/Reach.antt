@@ -2,7 +2,7 @@
 use Rattle.std.proofs.Common.{◌≡◌, ℕ, zero, suc, ◌+◌, ◌*◌, ◌%◌, ◌<◌, ◌≤◌, Bool, true, false, not, List, [], ◌∷◌, length, get_or, ℤ, pos, negsuc, ◌+ℤ◌, ◌-ℤ◌, ◌*ℤ◌, neg_ℤ, ◌≤ℤ◌, Ordering, Less, Equal, Greater, sym, refl, ap, ◌∙◌, subst, ap₂, add-one, arith, w64, to_z, of_z}
 use borrow.Author.Differences.{ints}
 use Rattle.std.specs.Ordering.{is_le, is_lt, is_gt, ordering_reverse}
-use Rattle.std.specs.List.{AllByRecursion as All}
+use Rattle.std.specs.List.{AllByRecursion}
 use Rattle.std.proofs.lemmas.Bool.{false≢true}
 use Rattle.legs.specs.Model as leg
 use Rattle.legs.specs.Measure.{Small, Reached, at_most}
@@ -115,7 +115,7 @@ module _ {C : Type 0} {P : Problem C} (o : Sound P) where
   back_small : (j : ℕ) (s : List ℕ) → length s ≤ 15 → Small (difference_back P j s)
   back_small j s h = left_within (length s) (get_or P.target j (pos 0)) (sum_back P j s) h (o.aimed j) (back_within j s)
 
-  rows : (s : List ℕ) → length s ≤ 15 → (length (differences P s) ≡ length s) × All Small (differences P s)
+  rows : (s : List ℕ) → length s ≤ 15 → (length (differences P s) ≡ length s) × AllByRecursion Small (differences P s)
   rows [] h = (refl, tt)
   rows (p ∷ s) h = let r = rows s (omega arith) in (ap suc r.0, (back_small (length s) (p ∷ s) h, r.1))
 

@@ -1,7 +1,7 @@
 -- What the search keeps from step to step, as the code has it.
 use Rattle.std.proofs.Common.{◌≡◌, ℕ, zero, suc, ◌+◌, ◌-◌, ◌%◌, ◌<◌, ◌≤◌, Bool, true, false, not, ◌≢◌, List, [], ◌∷◌, length, get_or, take, set, replicate, ℤ, pos, ◌+ℤ◌, ◌-ℤ◌, Ordering, sym, refl, ap, ◌∙◌, subst, ap₂, ⊎_elim, add-one, arith, w64, to_z, of_z}
 use Rattle.std.specs.Ordering.{is_le, is_gt}
-use Rattle.std.specs.List.{AllByRecursion as All}
+use Rattle.std.specs.List.{AllByRecursion}
 use Rattle.std.proofs.lemmas.List.{get_or_default, get_or-set_same, get_or-set_other, length-set}
 use Rattle.std.proofs.lemmas.Bool.{cases_eq}
 use Rattle.legs.specs.Model.{most_positions}
@@ -158,7 +158,7 @@ module _ {C : Type 0} {P : Problem C} (o : Sound P) where
     pub low_before : (j ≡ 0 → ⊥) → get_or at (j - 1) 0 < most_positions
     low_before h =
         let q : j ≡ suc (j - 1) = omega arith in
-        (subst (λ i. All (λ x. x < most_positions) (backward i at)) q g.low).0
+        (subst (λ i. AllByRecursion (λ x. x < most_positions) (backward i at)) q g.low).0
 
     -- the candidate is permitted
     pub record Open : Type 0 where

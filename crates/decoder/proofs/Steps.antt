@@ -1,7 +1,7 @@
 -- The state of the search, and what each step does to it.
 use Rattle.std.proofs.Common.{◌≡◌, ℕ, zero, suc, ◌+◌, ◌-◌, ◌<◌, ◌≤◌, Bool, true, false, cond, eqb, ◌≢◌, List, [], ◌∷◌, ◌++◌, map, length, get_or, take, drop, set, fold, filter, sym, refl, ap, ◌∙◌, subst, ap₂, add-one, arith}
 use mathlib.Core.List.{head-eq_of_cons-eq, tail-eq_of_cons-eq}
-use Rattle.std.specs.List.{AllByRecursion as All}
+use Rattle.std.specs.List.{AllByRecursion}
 use Rattle.std.proofs.lemmas.List.Elements.{filter-append}
 use Rattle.std.proofs.lemmas.List.{length-map, take-map, take_all, drop_more, take_more, length-drop, get_or-set_same, get_or-set_other, length-set}
 use Rattle.std.proofs.lemmas.Bool.{eq-eqb, ne_eqb, lt-leb, le-leb}
@@ -62,7 +62,7 @@ module _ {C : Type 0} (R : Rules C) where
     pub best_is : best ≡ reckoned n count start
     pub cost_is : bcost ≡ R.cost best
     pub kept : Kept (backward j pos) cs
-    pub low : All (λ x. x < most_positions) (backward j pos)
+    pub low : AllByRecursion (λ x. x < most_positions) (backward j pos)
 
   pub go_start : (n limit : ℕ) (start pos : List ℕ) (cs : List C) (bcost : C) → 0 < n → n ≤ length pos → n ≤ length cs → get_or pos 0 0 ≡ 0 → get_or cs 0 (R.cost []) ≡ R.cost [] → bcost ≡ R.cost start → Going n limit start 0 pos cs 0 start bcost
   go_start (suc d) limit start pos cs bcost h lo wi z k e =
@@ -100,7 +100,7 @@ module _ {C : Type 0} (R : Rules C) where
           best_is = g.best_is;
           cost_is = g.cost_is;
           kept = subst (λ s. Kept s cs) (sym same) g.kept;
-          low = subst (λ s. All (λ x. x < most_positions) s) (sym same) g.low;
+          low = subst (λ s. AllByRecursion (λ x. x < most_positions) s) (sym same) g.low;
         }
       where
         same : backward j (set pos j (get_or pos j 0 + 1)) ≡ backward j pos
@@ -146,7 +146,7 @@ module _ {C : Type 0} (R : Rules C) where
             best_is = sym (out (eqb (suc j) n) refl) ∙ t.2;
             cost_is = g.cost_is;
             kept = subst (λ s. Kept s cs) (sym (same (cand + 1))) g.kept;
-            low = subst (λ s. All (λ x. x < most_positions) s) (sym (same (cand + 1))) g.low;
+            low = subst (λ s. AllByRecursion (λ x. x < most_positions) s) (sym (same (cand + 1))) g.low;
           }
         where
           out : (v : Bool) → eqb (suc j) n ≡ v → fold (pick R) best (filter (full n) ((cand ∷ here) ∷ [])) ≡ best
@@ -169,7 +169,7 @@ module _ {C : Type 0} (R : Rules C) where
             best_is = sym b ∙ sym (ap (fold (pick R) best) (full_here true (eq-eqb (suc j) n f)) ∙ ap (λ v. cond v (cand ∷ here) best) l) ∙ t.2;
             cost_is = k ∙ ap R.cost b;
             kept = subst (λ s. Kept s cs) (sym (same (cand + 1))) g.kept;
-            low = subst (λ s. All (λ x. x < most_positions) s) (sym (same (cand + 1))) g.low;
+            low = subst (λ s. AllByRecursion (λ x. x < most_positions) s) (sym (same (cand + 1))) g.low;
           }
 
       -- the candidate is entered
@@ -187,7 +187,7 @@ module _ {C : Type 0} (R : Rules C) where
             best_is = sym (ap (fold (pick R) best) (full_here false (ne_eqb (suc j) n (λ q. omega arith)))) ∙ t.2;
             cost_is = g.cost_is;
             kept = subst (λ s. Kept s (set cs (suc j) c)) (sym deeper) (ap (λ i. get_or (set cs (suc j) c) (suc i) (R.cost [])) (length_backward j pos) ∙ get_or-set_same cs (suc j) c (R.cost []) a₃ ∙ k, kept_set here cs (suc j) c (omega (arith, length_backward j pos)) g.kept);
-            low = subst (λ s. All (λ x. x < most_positions) s) (sym deeper) (five, g.low);
+            low = subst (λ s. AllByRecursion (λ x. x < most_positions) s) (sym deeper) (five, g.low);
           }
         where
           a₂ : suc j < length pos
@@ -212,7 +212,7 @@ module _ {C : Type 0} (R : Rules C) where
         best_is = g.best_is;
         cost_is = g.cost_is;
         kept = subst (λ s. Kept s cs) (sym kin) g.kept.1;
-        low = subst (λ s. All (λ x. x < most_positions) s) (sym kin) g.low.1;
+        low = subst (λ s. AllByRecursion (λ x. x < most_positions) s) (sym kin) g.low.1;
       }
     where
       a : i < length pos

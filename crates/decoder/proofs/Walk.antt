@@ -1,7 +1,7 @@
 -- The tree search, and that it visits the due nodes.
 use Rattle.std.proofs.Common.{◌≡◌, ℕ, zero, suc, ◌+◌, ◌-◌, ◌<◌, ◌≤◌, Bool, true, false, cond, not, ◌&&◌, ◌||◌, List, [], ◌∷◌, ◌++◌, map, length, fold, filter, sym, refl, ap, ◌∙◌, ap₂, arith}
 use mathlib.Core.List.{drop_last}
-use Rattle.std.specs.List.{range_with_len, flat_map, AllByRecursion as All}
+use Rattle.std.specs.List.{range_with_len, flat_map, AllByRecursion}
 use Rattle.std.proofs.lemmas.List.Elements.{filter-append}
 use Rattle.std.proofs.ByRecursion.{All-map, All-weaker}
 use Rattle.std.proofs.lemmas.List.{map-append}
@@ -35,11 +35,11 @@ module _ {C : Type 0} (R : Rules C) where
 
 abbrev pub Rising : List ℕ → Type 0
 Rising [] = Unit {0}
-Rising (p ∷ ps) = All (λ x. p < x) ps × Rising ps
+Rising (p ∷ ps) = AllByRecursion (λ x. p < x) ps × Rising ps
 
-past_counting : (t : ℕ → Bool) (a p n : ℕ) → a < p → All (λ x. a < x) (filter t (range_with_len p n))
+past_counting : (t : ℕ → Bool) (a p n : ℕ) → a < p → AllByRecursion (λ x. a < x) (filter t (range_with_len p n))
 past_counting t a p zero h = tt
-past_counting t a p (suc n) h = cond_both (t p) _ _ (All (λ x. a < x)) (λ _. (h, past_counting t a (p + 1) n (omega arith))) (λ _. past_counting t a (p + 1) n (omega arith))
+past_counting t a p (suc n) h = cond_both (t p) _ _ (AllByRecursion (λ x. a < x)) (λ _. (h, past_counting t a (p + 1) n (omega arith))) (λ _. past_counting t a (p + 1) n (omega arith))
 
 pub rising_counting : (t : ℕ → Bool) (p n : ℕ) → Rising (filter t (range_with_len p n))
 rising_counting t p zero = tt
@@ -62,21 +62,21 @@ drop_last_short x [] = omega arith
 drop_last_short x (y ∷ q) = omega (arith, drop_last_short y q)
 
 module _ {C : Type 0} (R : Rules C) where
-  pub fulls_long : (d : ℕ) (s : List ℕ) → All (λ f. length f ≡ d) (fulls R d s)
+  pub fulls_long : (d : ℕ) (s : List ℕ) → AllByRecursion (λ f. length f ≡ d) (fulls R d s)
   fulls_long zero s = (refl, tt)
   fulls_long (suc d) s = all_joined (λ f. length f ≡ suc d) (λ _. Unit {0}) (λ p. map (λ f. p ∷ f) (fulls R d (p ∷ s))) (λ p _. All-map _ (λ f. p ∷ f) (fulls R d (p ∷ s)) (All-weaker _ _ (λ f e. ap suc e) _ (fulls_long d (p ∷ s)))) (moves R s) (all_of _ (λ _. tt) _)
 
-  pub fulls_fit : (N d : ℕ) (s : List ℕ) → length s + d ≤ N → All (λ f. length f ≤ N) (map (onto s) (fulls R d s))
+  pub fulls_fit : (N d : ℕ) (s : List ℕ) → length s + d ≤ N → AllByRecursion (λ f. length f ≤ N) (map (onto s) (fulls R d s))
   fulls_fit N d s h = All-map _ (onto s) (fulls R d s) (All-weaker _ _ (λ f e. omega (arith, length_onto s f)) _ (fulls_long d s))
 
-  pub fold_fit : (N : ℕ) (b : List ℕ) (fs : List (List ℕ)) → length b ≤ N → All (λ f. length f ≤ N) fs → length (fold (pick R) b fs) ≤ N
+  pub fold_fit : (N : ℕ) (b : List ℕ) (fs : List (List ℕ)) → length b ≤ N → AllByRecursion (λ f. length f ≤ N) fs → length (fold (pick R) b fs) ≤ N
   fold_fit N b [] h a = h
   fold_fit N b (f ∷ fs) h a = fold_fit N (pick R b f) fs (cond_both (R.leq (R.cost f) (R.cost b)) f b (λ x. length x ≤ N) (λ _. a.0) (λ _. h)) a.1
 
   pub after_fit : (N d : ℕ) (s b : List ℕ) → length s + d ≤ N → length b ≤ N → length (after R d s b) ≤ N
   after_fit N d s b h k = fold_fit N b _ k (fulls_fit N d s h)
 
-  pub folded_skip : (b : List ℕ) (fs : List (List ℕ)) → All (λ f. R.leq (R.cost f) (R.cost b) ≡ false) fs → fold (pick R) b fs ≡ b
+  pub folded_skip : (b : List ℕ) (fs : List (List ℕ)) → AllByRecursion (λ f. R.leq (R.cost f) (R.cost b) ≡ false) fs → fold (pick R) b fs ≡ b
   folded_skip b [] a = refl
   folded_skip b (f ∷ fs) a = ap (λ v. fold (pick R) (cond v f b) fs) a.0 ∙ folded_skip b fs a.1
 
@@ -102,7 +102,7 @@ module _ {C : Type 0} (R : Rules C) {N : ℕ} (L : Lawful R N) where
       go true e = absorb_left _ _ (λ h. L.trans x f b hx hf hb h e)
       go false e = absorb_right _ _ (λ h. L.trans x b f hx hb hf h (L.total f b hf hb e))
 
-  pub folded_leq : (x b : List ℕ) (fs : List (List ℕ)) → length x ≤ N → length b ≤ N → All (λ f. length f ≤ N) fs → R.leq (R.cost x) (R.cost (fold (pick R) b fs)) ≡ (R.leq (R.cost x) (R.cost b) && every (λ f. R.leq (R.cost x) (R.cost f)) fs)
+  pub folded_leq : (x b : List ℕ) (fs : List (List ℕ)) → length x ≤ N → length b ≤ N → AllByRecursion (λ f. length f ≤ N) fs → R.leq (R.cost x) (R.cost (fold (pick R) b fs)) ≡ (R.leq (R.cost x) (R.cost b) && every (λ f. R.leq (R.cost x) (R.cost f)) fs)
   folded_leq x b [] hx hb a = sym (and_true _)
   folded_leq x b (f ∷ fs) hx hb a =
       folded_leq x (pick R b f) fs hx (fold_fit R N b (f ∷ []) hb (a.0, tt)) a.1
@@ -122,18 +122,18 @@ module _ {C : Type 0} (R : Rules C) {N : ℕ} (L : Lawful R N) where
   after_skip d s b h k e =
       folded_skip R b _ (All-map (λ f. R.leq (R.cost f) (R.cost b) ≡ false) (onto s) (fulls R d s) (All-weaker _ _ (λ f l. above_onto s f b (omega arith) k e) _ (fulls_long R d s)))
 
-  some_nodes : (d : ℕ) (s : List ℕ) → All (λ q. Some q × (length q ≤ d)) (nodes R d s)
+  some_nodes : (d : ℕ) (s : List ℕ) → AllByRecursion (λ q. Some q × (length q ≤ d)) (nodes R d s)
   some_nodes zero s = tt
   some_nodes (suc d) s = all_joined (λ q. Some q × (length q ≤ suc d)) (λ _. Unit {0}) (λ x. (x ∷ []) ∷ map (λ f. x ∷ f) (nodes R d (x ∷ s))) (λ x _. ((tt, omega arith), All-map (λ q. Some q × (length q ≤ suc d)) (λ f. x ∷ f) _ (All-weaker _ _ (λ f k. (tt, omega (arith, k.1))) _ (some_nodes d (x ∷ s))))) (moves R s) (all_of _ (λ _. tt) _)
 
-  past_nodes : (d : ℕ) (s : List ℕ) (p : ℕ) (ps : List ℕ) → All (λ x. p < x) ps → All (λ q. Past p q × (length q ≤ suc d)) (nodes_of R d s ps)
+  past_nodes : (d : ℕ) (s : List ℕ) (p : ℕ) (ps : List ℕ) → AllByRecursion (λ x. p < x) ps → AllByRecursion (λ q. Past p q × (length q ≤ suc d)) (nodes_of R d s ps)
   past_nodes d s p ps a = all_joined (λ q. Past p q × (length q ≤ suc d)) (λ x. p < x) (λ x. (x ∷ []) ∷ map (λ f. x ∷ f) (nodes R d (x ∷ s))) (λ x h. ((h, omega arith), All-map (λ q. Past p q × (length q ≤ suc d)) (λ f. x ∷ f) _ (All-weaker _ _ (λ f k. (h, omega (arith, k.1))) _ (some_nodes d (x ∷ s))))) ps a
 
-  past_fulls : (d : ℕ) (s : List ℕ) (p : ℕ) (ps : List ℕ) → All (λ x. p < x) ps → All (Past p) (fulls_of R d s ps)
+  past_fulls : (d : ℕ) (s : List ℕ) (p : ℕ) (ps : List ℕ) → AllByRecursion (λ x. p < x) ps → AllByRecursion (Past p) (fulls_of R d s ps)
   past_fulls d s p ps a = all_joined (Past p) (λ x. p < x) _ (λ x h. All-map (Past p) (λ f. x ∷ f) _ (all_of _ (λ _. h) _)) ps a
 
   -- below p, only what goes on from p counts
-  opens_here : (d : ℕ) (s : List ℕ) (p : ℕ) (ps : List ℕ) (b : C) (t : List ℕ) → All (λ x. p < x) ps → opens R (fulls_of R d s (p ∷ ps)) s b (p ∷ t) ≡ opens R (fulls R d (p ∷ s)) (p ∷ s) b t
+  opens_here : (d : ℕ) (s : List ℕ) (p : ℕ) (ps : List ℕ) (b : C) (t : List ℕ) → AllByRecursion (λ x. p < x) ps → opens R (fulls_of R d s (p ∷ ps)) s b (p ∷ t) ≡ opens R (fulls R d (p ∷ s)) (p ∷ s) b t
   opens_here d s p ps b t a =
       ap (λ v. R.leq (R.cost (onto (p ∷ s) t)) b && v)
       (every_append T F G
@@ -155,7 +155,7 @@ module _ {C : Type 0} (R : Rules C) {N : ℕ} (L : Lawful R N) where
       late [] h = absurd h
       late (x ∷ g) h = ap (λ v. not v || R.leq (R.cost (onto (p ∷ s) t)) (R.cost (onto (x ∷ s) g))) (before_more p x g t h)
 
-      later : (gs : List (List ℕ)) → All (Past p) gs → All (λ f. T f ≡ true) gs
+      later : (gs : List (List ℕ)) → AllByRecursion (Past p) gs → AllByRecursion (λ f. T f ≡ true) gs
       later [] h = tt
       later (g ∷ gs) h = (late g h.0, later gs h.1)
 
@@ -188,12 +188,12 @@ module _ {C : Type 0} (R : Rules C) {N : ℕ} (L : Lawful R N) where
   due_past d s p ps b hs hb (x ∷ (y ∷ q)) h = opens_past d s p ps b x (drop_last (y ∷ q)) hs hb (omega (arith, h.1, drop_last_short y q)) h.0
 
   -- below p, where p is entered and where it is not
-  due_in : (d : ℕ) (s : List ℕ) (p : ℕ) (ps : List ℕ) (b : C) → All (λ x. p < x) ps → R.leq (R.cost (p ∷ s)) b ≡ true → (q : List ℕ) → Some q × (length q ≤ d) → due R (fulls_of R d s (p ∷ ps)) s b (p ∷ q) ≡ due R (fulls R d (p ∷ s)) (p ∷ s) b q
+  due_in : (d : ℕ) (s : List ℕ) (p : ℕ) (ps : List ℕ) (b : C) → AllByRecursion (λ x. p < x) ps → R.leq (R.cost (p ∷ s)) b ≡ true → (q : List ℕ) → Some q × (length q ≤ d) → due R (fulls_of R d s (p ∷ ps)) s b (p ∷ q) ≡ due R (fulls R d (p ∷ s)) (p ∷ s) b q
   due_in d s p ps b a e [] h = absurd h.0
   due_in d s p ps b a e (x ∷ []) h = opens_here d s p ps b [] a ∙ ap (λ v. v && every (λ f. true) (fulls R d (p ∷ s))) e ∙ every_true (λ f. true) (fulls R d (p ∷ s)) (all_of _ (λ _. refl) _)
   due_in d s p ps b a e (x ∷ (y ∷ q)) h = opens_here d s p ps b (x ∷ drop_last (y ∷ q)) a
 
-  due_out : (d : ℕ) (s : List ℕ) (p : ℕ) (ps : List ℕ) (b : List ℕ) → length s + suc d ≤ N → length b ≤ N → All (λ x. p < x) ps → R.leq (R.cost (p ∷ s)) (R.cost b) ≡ false → (q : List ℕ) → Some q × (length q ≤ d) → due R (fulls_of R d s (p ∷ ps)) s (R.cost b) (p ∷ q) ≡ false
+  due_out : (d : ℕ) (s : List ℕ) (p : ℕ) (ps : List ℕ) (b : List ℕ) → length s + suc d ≤ N → length b ≤ N → AllByRecursion (λ x. p < x) ps → R.leq (R.cost (p ∷ s)) (R.cost b) ≡ false → (q : List ℕ) → Some q × (length q ≤ d) → due R (fulls_of R d s (p ∷ ps)) s (R.cost b) (p ∷ q) ≡ false
   due_out d s p ps b hs hb a e [] h = absurd h.0
   due_out d s p ps b hs hb a e (x ∷ q) h =
       opens_here d s p ps (R.cost b) (drop_last (x ∷ q)) a ∙ ap (λ v. v && every (λ f. not (before f (drop_last (x ∷ q))) || R.leq (R.cost (onto (p ∷ s) (drop_last (x ∷ q)))) (R.cost (onto (p ∷ s) f))) (fulls R d (p ∷ s))) (above_onto (p ∷ s) (drop_last (x ∷ q)) b (omega (arith, h.1, drop_last_short x q)) hb e)
@@ -201,7 +201,7 @@ module _ {C : Type 0} (R : Rules C) {N : ℕ} (L : Lawful R N) where
   abbrev pub Seen : ℕ → Type 0
   Seen d = (s b : List ℕ) → length s + d ≤ N → length b ≤ N → seen R d s b ≡ map (onto s) (filter (due R (fulls R d s) s (R.cost b)) (nodes R d s))
 
-  seen_here : (d : ℕ) → Seen d → (s : List ℕ) (p : ℕ) (ps : List ℕ) (b : List ℕ) → length s + suc d ≤ N → length b ≤ N → All (λ x. p < x) ps → (v : Bool) → R.leq (R.cost (p ∷ s)) (R.cost b) ≡ v → cond v (seen R d (p ∷ s) b) [] ≡ map (onto s) (filter (due R (fulls_of R d s (p ∷ ps)) s (R.cost b)) (map (λ f. p ∷ f) (nodes R d (p ∷ s))))
+  seen_here : (d : ℕ) → Seen d → (s : List ℕ) (p : ℕ) (ps : List ℕ) (b : List ℕ) → length s + suc d ≤ N → length b ≤ N → AllByRecursion (λ x. p < x) ps → (v : Bool) → R.leq (R.cost (p ∷ s)) (R.cost b) ≡ v → cond v (seen R d (p ∷ s) b) [] ≡ map (onto s) (filter (due R (fulls_of R d s (p ∷ ps)) s (R.cost b)) (map (λ f. p ∷ f) (nodes R d (p ∷ s))))
   seen_here d ih s p ps b hs hb a true e =
       ih (p ∷ s) b (omega arith) hb
       ∙ ap (map (onto (p ∷ s))) (sym (kept_ext (λ q. D (p ∷ q)) _ below (All-weaker (λ q. Some q × (length q ≤ d)) _ (due_in d s p ps (R.cost b) a e) below (some_nodes d (p ∷ s)))))

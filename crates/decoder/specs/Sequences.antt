@@ -3,7 +3,7 @@
 use Rattle.std.specs.Prelude.{◌≡◌, ℕ, zero, suc, ◌+◌, ◌-◌, ◌*◌, ◌/◌, ◌%◌, ◌<◌, ◌≤◌, Bool, true, false, cond, ◌&&◌, ◌||◌, ◌⊎◌, List, [], ◌∷◌, length, take, ℤ, pos, ◌+ℤ◌, ◌-ℤ◌, ◌*ℤ◌, Option, ◌==◌, nat_lt, slice_index, slice_index_or}
 use Rattle.std.specs.declared.cmp.Ordering.TheVariants.{Less}
 use mathlib.Core.List.{drop_last}
-use Rattle.std.specs.List.{AllByRecursion as All}
+use Rattle.std.specs.List.{AllByRecursion}
 use Rattle.legs.specs.Model as leg
 use Rattle.legs.specs.Model.{LegModel}
 use Rattle.legs.specs.Measure as measure
@@ -51,7 +51,7 @@ Before f q = precedes (take (length q) f) q ≡ true
 -- each precedes all that follow it
 abbrev pub Ascending : List (List ℕ) → Type 0
 Ascending [] = Unit {0}
-Ascending (x ∷ xs) = All (λ y. precedes x y ≡ true) xs × Ascending xs
+Ascending (x ∷ xs) = AllByRecursion (λ y. precedes x y ≡ true) xs × Ascending xs
 
 -- q is a member of a list
 abbrev pub In : List ℕ → List (List ℕ) → Type 0

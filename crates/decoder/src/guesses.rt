@@ -2,9 +2,9 @@
 ghost use Rattle.std.specs.Prelude.{◌≡◌, ℕ, ◌<◌, ◌≤◌, length, take};
 ghost use Rattle.std.specs.Ordering.{is_lt};
 ghost use Rattle.legs.specs.Measure.{Reached};
-ghost use Rattle.decoder.specs.Sequences.{leg_of, cost as cost-of-sequence, cost_to};
-ghost use Rattle.decoder.specs.Guesses.{distance as distance-to, distance_at, moved_on};
-ghost use Rattle.decoder.specs.Computed.{nearer as nearer-of, nearest_below, or_zero, rounded, may_be, permitted_to, start as start_of_lem};
+ghost use Rattle.decoder.specs.Sequences.{leg_of, cost as cost_of_sequence, cost_to};
+ghost use Rattle.decoder.specs.Guesses.{distance as distance_to, distance_at, moved_on};
+ghost use Rattle.decoder.specs.Computed.{nearer as nearer_of, nearest_below, or_zero, rounded, may_be, permitted_to, start as start_of};
 ghost use Rattle.decoder.specs.Tasks.{entries_of, posed, unpriced, ZeroPast};
 
 use crate::rows::{difference_of, entries_of, moved_from, phase_of};
@@ -21,7 +21,7 @@ pub(crate) struct Priced<C> {
 
 // How far a level lies from x.
 fn gap(x: i32, level: i8) -> u64
-    ensures { result ≡ distance-to x level }
+    ensures { result ≡ distance_to x level }
 {
     (x as i64 - 4096 * level as i64).unsigned_abs()
 }
@@ -37,7 +37,7 @@ fn distance<L: Phases>(legs: &L, task: &Task, j: usize, p: u8) -> u64
 // The nearer of a position found before, if any, and a higher one.
 fn nearer<L: Phases>(legs: &L, task: &Task, j: usize, found: Option<u8>, p: u8) -> Option<u8>
     requires { j < 15 }
-    ensures { result ≡ nearer-of (unpriced (L.Phases.models legs.now) task.now) j found p }
+    ensures { result ≡ nearer_of (unpriced (L.Phases.models legs.now) task.now) j found p }
 {
     match found {
         None => Some(p),
@@ -135,8 +135,8 @@ fn cheaper<M: Measure>(measure: &M, a: M::Cost, b: M::Cost) -> bool
 
 // The start of a search: the remembered guess where it is permitted and cheaper, and otherwise the rounded one.
 pub(crate) fn start<L: Phases, M: Measure>(legs: &L, measure: &M, task: &Task) -> Priced<M::Cost>
-    ensures sequence { take (entries_of task.now) result.sequence ≡ start_of_lem (posed (L.Phases.models legs.now) (M.Measure.meaning measure.now) task.now) }
-    ensures cost { result.cost ≡ cost-of-sequence (posed (L.Phases.models legs.now) (M.Measure.meaning measure.now) task.now) (take (entries_of task.now) result.sequence) }
+    ensures sequence { take (entries_of task.now) result.sequence ≡ start_of (posed (L.Phases.models legs.now) (M.Measure.meaning measure.now) task.now) }
+    ensures cost { result.cost ≡ cost_of_sequence (posed (L.Phases.models legs.now) (M.Measure.meaning measure.now) task.now) (take (entries_of task.now) result.sequence) }
     ensures rest { ZeroPast (entries_of task.now) result.sequence }
 {
     let rounded = rounded_guess(legs, task);

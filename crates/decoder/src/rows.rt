@@ -2,7 +2,7 @@
 ghost use Rattle.std.specs.Prelude.{◌≡◌, ℕ, ◌+◌, ◌-◌, ◌*◌, ◌/◌, ◌%◌, ◌<◌, ◌≤◌, pos as pos', ◌-ℤ◌, ◌*ℤ◌, if◌then◌else◌, nat_lt, slice_index};
 ghost use Rattle.legs.specs.Measure.{Small};
 ghost use Rattle.decoder.specs.Limits.{Within};
-ghost use Rattle.decoder.specs.Sequences.{coupling, leg_of, left_over, difference as row-difference};
+ghost use Rattle.decoder.specs.Sequences.{coupling, leg_of, left_over, difference as row_difference};
 ghost use Rattle.decoder.specs.Tasks.{entries_of, unpriced};
 
 use crate::task::Task;
@@ -75,7 +75,7 @@ pub(crate) fn difference<L: Phases>(legs: &L, task: &Task, left: i64, j: usize, 
 // The difference of row j of a sequence.
 pub(crate) fn difference_of<L: Phases>(legs: &L, task: &Task, q: &[u8; 15], j: usize) -> i64
     requires { j < 15 }
-    ensures is { result ≡ row-difference (unpriced (L.Phases.models legs.now) task.now) q.now j }
+    ensures is { result ≡ row_difference (unpriced (L.Phases.models legs.now) task.now) q.now j }
     ensures low { Small result }
 {
     difference(legs, task, remainder(legs, task, q, j), j, q[j])

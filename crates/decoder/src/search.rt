@@ -4,7 +4,7 @@ ghost use Rattle.std.specs.Ordering.{is_gt};
 ghost use Rattle.legs.specs.Measure.{Reached};
 ghost use Rattle.decoder.specs.Sequences.{cost as cost_of};
 ghost use Rattle.decoder.specs.Outcome.{AsComputed, AsDefined, AsPromised};
-ghost use Rattle.decoder.specs.Computed.{start as start_of_lem};
+ghost use Rattle.decoder.specs.Computed.{start as start_of};
 ghost use Rattle.decoder.specs.Tasks.{entries_of, posed, ZeroPast};
 
 use crate::rows::{difference, entries_of, moved_from, phase_of, remainder};
@@ -33,7 +33,7 @@ pub(crate) fn search_from<L: Phases, M: Measure>(
     start: &[u8; 15],
     start_cost: M::Cost,
 ) -> Answer<M::Cost>
-    requires sequence { take (entries_of task.now) start.now ≡ start_of_lem (posed (L.Phases.models legs.now) (M.Measure.meaning measure.now) task.now) }
+    requires sequence { take (entries_of task.now) start.now ≡ start_of (posed (L.Phases.models legs.now) (M.Measure.meaning measure.now) task.now) }
     requires cost { start_cost ≡ cost_of (posed (L.Phases.models legs.now) (M.Measure.meaning measure.now) task.now) (take (entries_of task.now) start.now) }
     requires rest { ZeroPast (entries_of task.now) start.now }
     ensures computed { AsComputed (posed (L.Phases.models legs.now) (M.Measure.meaning measure.now) task.now) limit result }

@@ -1,7 +1,7 @@
 // Which tables a file has, in which order, of which shape and within which limits.
 ghost use Rattle.std.specs.Prelude.{◌≡◌, ℕ, ◌+◌, ◌*◌, ◌<◌, ◌≤◌, length, ℤ, IfSome, MatchOption, ◌≢◌, slice_index_or};
 ghost use Rattle.file.specs.File.{offset};
-ghost use Rattle.file.specs.Layout.{CellOf, InTable, columns as columns_of, count as count_of, following as following-of, above as above_of, ahead as ahead_of_lem, cells as Cells-of, greatest as greatest-entry, place as place_of, limited as is-limited, least as least-entry, on_diagonal, rows as rows_of_lem, size as type_size};
+ghost use Rattle.file.specs.Layout.{CellOf, InTable, columns as columns_of, count as count_of, following as following_of, above as above_of, ahead as ahead_of, cells as cells_of, greatest as greatest_entry, place as place_of, limited as is_limited, least as least_entry, on_diagonal, rows as rows_of, size as size_of};
 
 use crate::header::{ENTRY_BYTES, HEADER_BYTES};
 use crate::horizon::Horizon;
@@ -34,7 +34,7 @@ pub struct Cell {
 impl Table {
     // The least value that an entry of the table may have.
     pub fn least(self) -> i32
-        ensures { result ≡ least-entry self }
+        ensures { result ≡ least_entry self }
     {
         match self {
             Table::Weight => 0,
@@ -48,7 +48,7 @@ impl Table {
 
     // The greatest value that an entry of the table may have.
     pub fn greatest(self) -> i32
-        ensures { result ≡ greatest-entry self }
+        ensures { result ≡ greatest_entry self }
     {
         match self {
             Table::Weight => 65_536,
@@ -62,14 +62,14 @@ impl Table {
 
     // Whether an entry of the table may have this value.
     pub fn limits(self, value: i32) -> bool
-        ensures { result ≡ is-limited self value }
+        ensures { result ≡ is_limited self value }
     {
         self.least() <= value && value <= self.greatest()
     }
 
     // How many rows the table has.
     pub fn rows(self, horizon: Horizon) -> usize
-        ensures { result ≡ rows_of_lem self horizon.stages }
+        ensures { result ≡ rows_of self horizon.stages }
     {
         match self {
             Table::Weight => 1,
@@ -80,7 +80,7 @@ impl Table {
 
     // How many columns one of its rows has.
     pub(crate) fn columns(self, horizon: Horizon, row: usize) -> usize
-        requires { row < rows_of_lem self horizon.stages }
+        requires { row < rows_of self horizon.stages }
         ensures { result ≡ columns_of self horizon.stages row }
     {
         match self {
@@ -93,7 +93,7 @@ impl Table {
 
     // How many entries a file has in front of the table.
     pub(crate) fn ahead(self, horizon: Horizon) -> usize
-        ensures { result ≡ ahead_of_lem self horizon.stages }
+        ensures { result ≡ ahead_of self horizon.stages }
     {
         let n = horizon.stages();
         match self {
@@ -108,7 +108,7 @@ impl Table {
 
     // How many entries the table has above one of its rows.
     pub(crate) fn above(self, horizon: Horizon, row: usize) -> usize
-        requires { row < rows_of_lem self horizon.stages }
+        requires { row < rows_of self horizon.stages }
         ensures { result ≡ above_of self horizon.stages row }
     {
         match self {
@@ -128,8 +128,8 @@ pub(crate) struct Span {
 impl Table {
     // Where the entries of a row stand.
     pub(crate) fn span(self, horizon: Horizon, row: usize) -> Span
-        requires { row < rows_of_lem self horizon.stages }
-        ensures start { result.start ≡ ahead_of_lem self horizon.stages + above_of self horizon.stages row }
+        requires { row < rows_of self horizon.stages }
+        ensures start { result.start ≡ ahead_of self horizon.stages + above_of self horizon.stages row }
         ensures end { result.end ≡ result.start + columns_of self horizon.stages row }
         ensures inside { result.end ≤ count_of horizon.stages }
         ensures bound { result.end ≤ 741 }
@@ -141,8 +141,8 @@ impl Table {
 
     // Where the entries of the whole table stand.
     pub(crate) fn whole(self, horizon: Horizon) -> Span
-        ensures start { result.start ≡ ahead_of_lem self horizon.stages }
-        ensures end { result.end ≡ result.start + type_size self horizon.stages }
+        ensures start { result.start ≡ ahead_of self horizon.stages }
+        ensures end { result.end ≡ result.start + size_of self horizon.stages }
         ensures inside { result.end ≤ count_of horizon.stages }
         ensures bound { result.end ≤ 741 }
     {
@@ -156,7 +156,7 @@ impl Table {
 
     // The table behind this one in the file, or this one where it is the last.
     fn following(self) -> Table
-        ensures { result ≡ following-of self }
+        ensures { result ≡ following_of self }
     {
         match self {
             Table::Weight => Table::Gamma,
@@ -230,8 +230,8 @@ impl Cell {
     // The cell of an entry of the file, where the file has that entry.
     pub fn at(horizon: Horizon, entry: usize) -> Option<Cell>
         ensures value { MatchOption result (count_of horizon.stages ≤ entry) (λ x. CellOf horizon.stages entry x × (entry < count_of horizon.stages)) }
-        ensures listed { IfSome result (λ x. (d : Cell) → slice_index_or (Cells-of horizon.stages) entry d ≡ x) }
-        ensures counted { length (Cells-of horizon.stages) ≡ count_of horizon.stages }
+        ensures listed { IfSome result (λ x. (d : Cell) → slice_index_or (cells_of horizon.stages) entry d ≡ x) }
+        ensures counted { length (cells_of horizon.stages) ≡ count_of horizon.stages }
     {
         if entry >= count(horizon) {
             return None;

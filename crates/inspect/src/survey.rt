@@ -2,7 +2,7 @@
 ghost use Rattle.std.specs.Prelude.{◌≡◌, ◌+◌, length, IfSome, if◌then◌else◌, Some, None, nat_le};
 ghost use Rattle.file.specs.File.{horizon_of, offset, word};
 ghost use Rattle.file.specs.Layout.{InTable, place};
-ghost use Rattle.inspect.specs.Extremes.{extremes_of, including as including-of};
+ghost use Rattle.inspect.specs.Extremes.{extremes_of, including as including_of};
 
 use fault::Fault;
 use file::horizon::Horizon;
@@ -19,7 +19,7 @@ pub struct Extremes {
 impl Extremes {
     // The extremes with one value more.
     fn including(self, value: i32) -> Extremes
-        ensures { result ≡ including-of self value }
+        ensures { result ≡ including_of self value }
     {
         Extremes {
             least: self.least.min(value),

@@ -1,13 +1,13 @@
 -- How high a cost can grow.
 use Rattle.std.proofs.Common.{◌≡◌, ℕ, zero, suc, ◌+◌, ◌*◌, ◌≤◌, List, [], ◌∷◌, length, replicate, ℤ, pos, nat_abs, refl, ap, le_refl, suc-mul, mul-le-mul, arith}
-use Rattle.std.specs.List.{AllByRecursion as All}
+use Rattle.std.specs.List.{AllByRecursion}
 use Rattle.legs.specs.Measure.{MeasureModel, Reached, Small, cost_of, most_difference}
 use Rattle.legs.specs.Measures.{squared, peak_first}
 
 module _ {C : Type 0} (m : MeasureModel C) (f : C → ℕ) where
   -- what is 0 at the start and grows by at most a step with each row
   module _ (step : ℕ) (none : f m.start ≡ 0) (more : (c : C) (d : ℤ) → Small d → f (m.after c d) ≤ f c + step) where
-    steps : (ds : List ℤ) → All Small ds → f (cost_of m ds) ≤ length ds * step
+    steps : (ds : List ℤ) → AllByRecursion Small ds → f (cost_of m ds) ≤ length ds * step
     steps [] all = omega (arith, none)
     steps (d ∷ ds) all =
         let e : suc (length ds) * step ≡ length ds * step + step = suc-mul (length ds) step in
@@ -20,7 +20,7 @@ module _ {C : Type 0} (m : MeasureModel C) (f : C → ℕ) where
 
   -- what is at most a bound at the start and stays so with each row
   module _ (bound : ℕ) (begins : f m.start ≤ bound) (stays : (c : C) (d : ℤ) → Small d → f c ≤ bound → f (m.after c d) ≤ bound) where
-    stayed : (ds : List ℤ) → All Small ds → f (cost_of m ds) ≤ bound
+    stayed : (ds : List ℤ) → AllByRecursion Small ds → f (cost_of m ds) ≤ bound
     stayed [] all = begins
     stayed (d ∷ ds) all = stays (cost_of m ds) d all.0 (stayed ds all.1)
 
@@ -28,7 +28,7 @@ module _ {C : Type 0} (m : MeasureModel C) (f : C → ℕ) where
     kept_below k c r = omega (arith, ap f r.is, stayed r.differences r.small)
 
 -- the same difference in every one of k rows
-all_alike : (d : ℤ) → Small d → (k : ℕ) → All Small (replicate k d)
+all_alike : (d : ℤ) → Small d → (k : ℕ) → AllByRecursion Small (replicate k d)
 all_alike d small zero = tt
 all_alike d small (suc k) = (small, all_alike d small k)
 

@@ -6,7 +6,7 @@ use denote.Param.{layout}
 use Rattle.std.specs.Borrow.{RattleType}
 use prog.Memory.{size}
 use Rattle.std.specs.Ordering.{is_le, ordering_reverse}
-use Rattle.std.specs.List.{AllByRecursion as All}
+use Rattle.std.specs.List.{AllByRecursion}
 
 -- A measure: the cost before any row, the cost once a further row's difference is taken in, and a comparison of costs.
 pub record MeasureModel (C : Type 0) : Type 0 where
@@ -34,7 +34,7 @@ cost_of m (d ∷ ds) = m.after (cost_of m ds) d
 pub record Reached {C : Type 0} (m : MeasureModel C) (k : ℕ) (c : C) : Type 0 where
   pub differences : List ℤ
   pub few : length differences ≤ k
-  pub small : All Small differences
+  pub small : AllByRecursion Small differences
   pub is : c ≡ cost_of m differences
 
 -- the laws that every measure shows, of the costs that at most fifteen rows can reach: the comparison is a total order in

@@ -1,6 +1,6 @@
 // The layer that bars a leg.
 ghost use Rattle.std.specs.Prelude.{◌≡◌, false};
-ghost use Rattle.legs.specs.Kinds.{barred as barred-model};
+ghost use Rattle.legs.specs.Kinds.{barred as barred_model};
 ghost use Rattle.std.proofs.Common.{rules};
 
 use crate::leg::Leg;
@@ -43,7 +43,7 @@ impl<L> Barred<L> {
 }
 
 impl<L: Leg> Leg for Barred<L> {
-    ghost model = { λ leg. barred-model leg.bar (L.Leg.model leg.below) };
+    ghost model = { λ leg. barred_model leg.bar (L.Leg.model leg.below) };
 
     ghost lawful = { Prim.search rules };
 

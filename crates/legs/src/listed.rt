@@ -2,7 +2,7 @@
 ghost use Rattle.std.specs.Prelude.{◌≡◌, ℕ, ◌<◌, ◌≤◌, true, length, take, None, slice_index_or};
 ghost use Rattle.std.proofs.Common.{sym, ◌∙◌, arith, length-take-le};
 ghost use Rattle.fault.specs.Refusals.{Answers, lowest_failing};
-ghost use Rattle.legs.specs.Kinds.{bit, listed as listed-model};
+ghost use Rattle.legs.specs.Kinds.{bit, listed as listed_model};
 ghost use Rattle.legs.specs.Refusals.{level_stands, listed_refusal, mask_stands};
 ghost use Rattle.legs.specs.ListedLaws.{listed_lawful};
 
@@ -152,7 +152,7 @@ fn first_bad_mask(masks: &[u8]) -> Option<usize>
 }
 
 impl Leg for Listed {
-    ghost model = { λ leg. listed-model (take leg.count leg.levels) (take leg.count leg.masks) leg.rest };
+    ghost model = { λ leg. listed_model (take leg.count leg.levels) (take leg.count leg.masks) leg.rest };
 
     ghost lawful = { λ leg.
         let levels-fit : leg.count ≤ length leg.levels = omega arith in

@@ -1,7 +1,7 @@
 // The peak-first measure.
 ghost use Rattle.std.specs.Prelude.{◌≡◌, ℕ, ◌≤◌};
 ghost use Rattle.legs.specs.Measure.{Reached};
-ghost use Rattle.legs.specs.Measures.{peak_first as peak-first-model};
+ghost use Rattle.legs.specs.Measures.{peak_first as peak_first_model};
 ghost use Rattle.legs.specs.Orders.{peak_first_lawful};
 ghost use Rattle.std.proofs.Common.{rules};
 
@@ -16,9 +16,9 @@ pub struct PeakFirst;
 impl PeakFirst {
     // The highest cost that fifteen rows can reach, in its peak and in its sum.
     pub fn highest() -> (u64, u64)
-        ensures reached { Reached peak-first-model 15 result }
-        ensures peak { (cost : ℕ × ℕ) → Reached peak-first-model 15 cost → cost.0 ≤ result.0 }
-        ensures sum { (cost : ℕ × ℕ) → Reached peak-first-model 15 cost → cost.1 ≤ result.1 }
+        ensures reached { Reached peak_first_model 15 result }
+        ensures peak { (cost : ℕ × ℕ) → Reached peak_first_model 15 cost → cost.0 ≤ result.0 }
+        ensures sum { (cost : ℕ × ℕ) → Reached peak_first_model 15 cost → cost.1 ≤ result.1 }
     {
         (MOST_DIFFERENCE, MOST_ROWS * MOST_DIFFERENCE)
     }
@@ -27,7 +27,7 @@ impl PeakFirst {
 impl Measure for PeakFirst {
     type Cost = (u64, u64);
 
-    ghost meaning = { λ _. peak-first-model };
+    ghost meaning = { λ _. peak_first_model };
 
     ghost lawful = { λ measure. peak_first_lawful };
 

@@ -1,7 +1,7 @@
 // The squared measure.
 ghost use Rattle.std.specs.Prelude.{◌≡◌, ℕ, ◌^◌, ◌<◌, ◌≤◌};
 ghost use Rattle.legs.specs.Measure.{Reached};
-ghost use Rattle.legs.specs.Measures.{squared as squared-model};
+ghost use Rattle.legs.specs.Measures.{squared as squared_model};
 ghost use Rattle.legs.specs.Orders.{squared_lawful};
 ghost use Rattle.std.proofs.Common.{rules};
 
@@ -16,8 +16,8 @@ pub struct Squared;
 impl Squared {
     // The highest cost that fifteen rows can reach.
     pub fn highest() -> u64
-        ensures reached { Reached squared-model 15 result }
-        ensures highest { (cost : ℕ) → Reached squared-model 15 cost → cost ≤ result }
+        ensures reached { Reached squared_model 15 result }
+        ensures highest { (cost : ℕ) → Reached squared_model 15 cost → cost ≤ result }
         ensures below { result < 2 ^ 59 }
     {
         MOST_ROWS * MOST_DIFFERENCE * MOST_DIFFERENCE
@@ -27,7 +27,7 @@ impl Squared {
 impl Measure for Squared {
     type Cost = u64;
 
-    ghost meaning = { λ _. squared-model };
+    ghost meaning = { λ _. squared_model };
 
     ghost lawful = { λ measure. squared_lawful };
 

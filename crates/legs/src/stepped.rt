@@ -1,7 +1,7 @@
 // The stepped leg.
 ghost use Rattle.std.specs.Prelude.{◌≡◌, ◌≤◌};
 ghost use Rattle.fault.specs.Refusals.{Answers};
-ghost use Rattle.legs.specs.Kinds.{stepped as stepped-model};
+ghost use Rattle.legs.specs.Kinds.{stepped as stepped_model};
 ghost use Rattle.legs.specs.Refusals.{stepped_refusal};
 ghost use Rattle.std.proofs.Common.{rules, arith};
 
@@ -44,7 +44,7 @@ impl Stepped {
 }
 
 impl Leg for Stepped {
-    ghost model = { λ leg. stepped-model leg.reach leg.stride };
+    ghost model = { λ leg. stepped_model leg.reach leg.stride };
 
     ghost lawful = { first_of (Prim.search rules, Prim.grind (arith, Self.row.coded.inj)) };
 

@@ -1,10 +1,10 @@
 // The equations, one function for each.
 ghost use Rattle.std.specs.Prelude.{◌≡◌, ℕ, ◌*◌, ◌<◌, length, get_or, pos, ◌*ℤ◌, slice_index_or};
 ghost use Rattle.file.specs.File.{entry};
-ghost use Rattle.file.specs.Layout.{columns as columns_of, rows as rows_of_lem};
+ghost use Rattle.file.specs.Layout.{columns as columns_of, rows as rows_of};
 ghost use Rattle.file.specs.Tables.{data_of};
 ghost use Rattle.file.specs.declared.layout.Table.TheVariants.{Upsilon};
-ghost use Rattle.period.specs.Equations.{error as error-of, error_term as error-term-of, row_product as row-product-of, theta as theta-of, weight_term as weight-term-of};
+ghost use Rattle.period.specs.Equations.{error as error_of, error_term as error_term_of, row_product as row_product_of, theta as theta_of, weight_term as weight_term_of};
 ghost use Rattle.period.specs.Sums.{AllWithin, Filled, sum_to};
 
 use crate::sums::{add_product, rounded, rounded_dot};
@@ -17,7 +17,7 @@ fn error(tables: &Tables, currents: &[i32; 2], references: &[i32], r: usize) -> 
     requires staged { length references.now ≡ 2 * (data_of tables.now).horizon }
     requires currents { AllWithin 8192 currents.now }
     requires references { AllWithin 8192 references.now }
-    ensures { result ≡ error-of (data_of tables.now) currents.now references.now r }
+    ensures { result ≡ error_of (data_of tables.now) currents.now references.now r }
 {
     rounded_dot(tables.row(Table::Gamma, r), currents) - references[r]
 }
@@ -27,7 +27,7 @@ pub(crate) fn errors(tables: &Tables, currents: &[i32; 2], references: &[i32]) -
     requires staged { length references.now ≡ 2 * (data_of tables.now).horizon }
     requires currents { AllWithin 8192 currents.now }
     requires references { AllWithin 8192 references.now }
-    ensures { Filled 10 (2 * (data_of tables.now).horizon) (error-of (data_of tables.now) currents.now references.now) result }
+    ensures { Filled 10 (2 * (data_of tables.now).horizon) (error_of (data_of tables.now) currents.now references.now) result }
 {
     let mut errors = [0; 10];
     for r in 0..2 * tables.horizon().stages() {
@@ -52,7 +52,7 @@ fn error_sum(tables: &Tables, errors: &[i32; 10], j: usize) -> i64
 fn error_term(tables: &Tables, errors: &[i32; 10], j: usize) -> i32
     requires row { j < 3 * (data_of tables.now).horizon }
     requires errors { AllWithin 40960 errors.now }
-    ensures { result ≡ error-term-of (data_of tables.now) (λ r. get_or errors.now r (pos 0)) j }
+    ensures { result ≡ error_term_of (data_of tables.now) (λ r. get_or errors.now r (pos 0)) j }
 {
     rounded(error_sum(tables, errors, j)) as i32
 }
@@ -60,7 +60,7 @@ fn error_term(tables: &Tables, errors: &[i32; 10], j: usize) -> i32
 // The weight's part of Θ in row j.
 fn weight_term(tables: &Tables, levels: &[i8; 3], j: usize) -> i32
     requires { AllWithin 2 levels.now }
-    ensures { result ≡ weight-term-of (data_of tables.now) levels.now j }
+    ensures { result ≡ weight_term_of (data_of tables.now) levels.now j }
 {
     if j < 3 {
         tables.weight() * i32::from(levels[j])
@@ -74,7 +74,7 @@ fn theta(tables: &Tables, errors: &[i32; 10], levels: &[i8; 3], j: usize) -> i32
     requires row { j < 3 * (data_of tables.now).horizon }
     requires errors { AllWithin 40960 errors.now }
     requires levels { AllWithin 2 levels.now }
-    ensures { result ≡ theta-of (data_of tables.now) (λ r. get_or errors.now r (pos 0)) levels.now j }
+    ensures { result ≡ theta_of (data_of tables.now) (λ r. get_or errors.now r (pos 0)) levels.now j }
 {
     error_term(tables, errors, j) - weight_term(tables, levels, j)
 }
@@ -83,7 +83,7 @@ fn theta(tables: &Tables, errors: &[i32; 10], levels: &[i8; 3], j: usize) -> i32
 pub(crate) fn thetas(tables: &Tables, errors: &[i32; 10], levels: &[i8; 3]) -> [i32; 15]
     requires errors { AllWithin 40960 errors.now }
     requires levels { AllWithin 2 levels.now }
-    ensures { Filled 15 (3 * (data_of tables.now).horizon) (theta-of (data_of tables.now) (λ r. get_or errors.now r (pos 0)) levels.now) result }
+    ensures { Filled 15 (3 * (data_of tables.now).horizon) (theta_of (data_of tables.now) (λ r. get_or errors.now r (pos 0)) levels.now) result }
 {
     let mut thetas = [0; 15];
     for j in 0..3 * tables.horizon().stages() {
@@ -94,20 +94,20 @@ pub(crate) fn thetas(tables: &Tables, errors: &[i32; 10], levels: &[i8; 3]) -> [
 
 // Row j of a square table times Θ.
 fn row_product(tables: &Tables, table: Table, thetas: &[i32; 15], j: usize) -> i32
-    requires row { j < rows_of_lem table (data_of tables.now).horizon }
+    requires row { j < rows_of table (data_of tables.now).horizon }
     requires columns { columns_of table (data_of tables.now).horizon j ≡ 3 * (data_of tables.now).horizon }
     requires thetas { AllWithin 540672 thetas.now }
-    ensures { result ≡ row-product-of (data_of tables.now) table (λ k. get_or thetas.now k (pos 0)) j }
+    ensures { result ≡ row_product_of (data_of tables.now) table (λ k. get_or thetas.now k (pos 0)) j }
 {
     rounded_dot(tables.row(table, j), thetas)
 }
 
 // All rows of a square table times Θ.
 pub(crate) fn row_products(tables: &Tables, table: Table, thetas: &[i32; 15]) -> [i32; 15]
-    requires rows { rows_of_lem table (data_of tables.now).horizon ≡ 3 * (data_of tables.now).horizon }
+    requires rows { rows_of table (data_of tables.now).horizon ≡ 3 * (data_of tables.now).horizon }
     requires columns { (j : ℕ) → columns_of table (data_of tables.now).horizon j ≡ 3 * (data_of tables.now).horizon }
     requires thetas { AllWithin 540672 thetas.now }
-    ensures { Filled 15 (3 * (data_of tables.now).horizon) (row-product-of (data_of tables.now) table (λ k. get_or thetas.now k (pos 0))) result }
+    ensures { Filled 15 (3 * (data_of tables.now).horizon) (row_product_of (data_of tables.now) table (λ k. get_or thetas.now k (pos 0))) result }
 {
     let mut products = [0; 15];
     for j in 0..3 * tables.horizon().stages() {

@@ -1,6 +1,6 @@
 // Sums of products, and how they are rounded.
 ghost use Rattle.std.specs.Prelude.{◌≡◌, ℕ, ◌+◌, ◌-◌, ◌*◌, ◌^◌, ◌<◌, ◌≤◌, length, ℤ, pos, ◌+ℤ◌, ◌*ℤ◌, slice_index_or};
-ghost use Rattle.period.specs.Sums.{RoundingRows, Within, rounded as rounded-sum, sum_to};
+ghost use Rattle.period.specs.Sums.{RoundingRows, Within, rounded as rounded_sum, sum_to};
 
 // How many counts make a unit.
 const UNIT: i64 = 4096;
@@ -10,7 +10,7 @@ const HALF: i64 = 2048;
 
 // A sum of products of counts, in counts.
 pub fn rounded(sum: i64) -> i64
-    ensures value { result ≡ rounded-sum sum }
+    ensures value { result ≡ rounded_sum sum }
     ensures rows { RoundingRows }
 {
     let whole = sum.div_euclid(UNIT);
@@ -51,7 +51,7 @@ pub(crate) fn rounded_dot(row: &[i32], xs: &[i32]) -> i32
     requires enough { length row.now ≤ length xs.now }
     requires limited { (k : ℕ) → k < length row.now → Within (2 ^ 20) (slice_index_or row.now k (pos 0)) }
     requires small { (k : ℕ) → k < length row.now → Within 540672 (slice_index_or xs.now k (pos 0)) }
-    ensures { result ≡ rounded-sum (sum_to (length row.now) (λ k. slice_index_or row.now k (pos 0) *ℤ slice_index_or xs.now k (pos 0))) }
+    ensures { result ≡ rounded_sum (sum_to (length row.now) (λ k. slice_index_or row.now k (pos 0) *ℤ slice_index_or xs.now k (pos 0))) }
 {
     rounded(dot(row, xs)) as i32
 }

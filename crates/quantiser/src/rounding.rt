@@ -2,7 +2,7 @@
 ghost use Rattle.std.specs.Prelude.{◌≡◌};
 ghost use Rattle.fault.specs.Refusals.{Answers, unless};
 ghost use Rattle.file.specs.Layout.{limited};
-ghost use Rattle.quantiser.specs.Quantised.{CountsAreMeant, counts as Counts-of, quantise_refusal, refusal};
+ghost use Rattle.quantiser.specs.Quantised.{CountsAreMeant, counts as counts_of, quantise_refusal, refusal};
 ghost use Rattle.quantiser.specs.declared.Entry.TheVariants.{Real};
 
 use fault::{Fault, Layer};
@@ -33,7 +33,7 @@ pub(crate) fn limited_counts(counts: i64, table: Table) -> Result<i32, Fault>
 // The counts nearest to a real number of units, if the table allows them.
 // No table allows more than 256 units, and up to 512 units both products are exact. After the floor all numbers are whole.
 pub(crate) fn real_counts(x: f64, table: Table) -> Result<i32, Fault>
-    ensures outcome { Answers (quantise_refusal (Real x) table) (λ v. v ≡ Counts-of (Real x)) result }
+    ensures outcome { Answers (quantise_refusal (Real x) table) (λ v. v ≡ counts_of (Real x)) result }
     ensures meaning { CountsAreMeant (Real x) }
 {
     if !x.is_finite() {

@@ -1,7 +1,7 @@
 // How words are read off a line.
 ghost use Rattle.std.specs.Prelude.{◌≡◌, ℕ, ◌+◌, ◌-◌, ◌*◌, ◌<◌, ◌≤◌, [], ◌∷◌, length, drop, IfSome, ◌≢◌, slice_index};
 ghost use Rattle.console.specs.Tokens.{First, end_column, left, others};
-ghost use Rattle.console.specs.Words.{magnitude, number as number_of_lem, phase as phase-of, words, words_from};
+ghost use Rattle.console.specs.Words.{magnitude, number as number_of, phase as phase_of, words, words_from};
 
 use super::{Token, Words};
 
@@ -55,7 +55,7 @@ fn unsigned(digits: &[u8]) -> Option<u32>
 
 // The number that a word writes, if it writes one.
 fn number(bytes: &[u8]) -> Option<i32>
-    ensures { result ≡ number_of_lem bytes.now }
+    ensures { result ≡ number_of bytes.now }
 {
     match bytes {
         [b'-', digits @ ..] => match unsigned(digits) {
@@ -71,7 +71,7 @@ fn number(bytes: &[u8]) -> Option<i32>
 
 // The phase that a word names, if it names one.
 pub(crate) fn phase(bytes: &[u8]) -> Option<u8>
-    ensures { result ≡ phase-of bytes.now }
+    ensures { result ≡ phase_of bytes.now }
 {
     let [b] = bytes else {
         return None;

@@ -1,7 +1,7 @@
 // Readings of a plant's tables.
 ghost use Rattle.std.specs.Prelude.{◌≡◌, ℕ, ◌+◌, ◌*◌, ◌<◌, ◌≤◌, List, [], length, ℤ, pos, ◌≤ℤ◌, IfSome, slice_index_or};
 ghost use Rattle.file.specs.File.{entry, entry_reading, row_reading, table_reading};
-ghost use Rattle.file.specs.Layout.{InTable, Limited, rows as rows_of_lem};
+ghost use Rattle.file.specs.Layout.{InTable, Limited, rows as rows_of};
 ghost use Rattle.file.specs.Tables.{data_of};
 ghost use Rattle.file.specs.declared.layout.Table.TheVariants.{Weight};
 
@@ -67,7 +67,7 @@ impl Tables {
 
     // A row that the table has.
     fn row_within(&self, table: Table, row: usize) -> &[i32]
-        requires { row < rows_of_lem table self.now.horizon.stages }
+        requires { row < rows_of table self.now.horizon.stages }
         ensures value { result.now ≡ row_reading (data_of self.now) table row }
         ensures bound { (k : ℕ) → k < length result.now → Limited table (slice_index_or result.now k (pos 0)) }
     {

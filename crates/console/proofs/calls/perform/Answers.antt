@@ -11,4 +11,4 @@ returns-in-Step c a m =
 pub returns-in-Try : goal.returns-in-Try
 returns-in-Try c a m =
     let e = subst (λ q. Means q a) c.in-Try.is m in
-    subst (λ x. Done c.args.file.now x c.args.ctl.now (reply_of c.try-out.result) c.try-out.new.ctl) (sym e.1) (c.try-out.ensures c.args.file.now)
+    subst (λ x. Done c.args.file.now x c.args.ctl.now (reply_of c.try_out.result) c.try_out.new.ctl) (sym e.1) (c.try_out.ensures c.args.file.now)

@@ -8,14 +8,14 @@ use Rattle.console.specs.Turns.{lent}
 use Rattle.console.proofs.Taking.{as_read, numbers_took}
 use Rattle.console.proofs.calls.plan.Goals as goal
 
-pub returns-in-err-order : goal.returns-in-err-order
-returns-in-err-order c =
+pub returns-in_err-order : goal.returns-in_err-order
+returns-in_err-order c =
     let n = c.args.numbers.now in
     let f0 : SFits w32 (get_or n.values 0 (pos 0)) = search rules in
     let f1 : SFits w32 (get_or n.values 1 (pos 0)) = search rules in
-    let k = c.in-err-order.ensures.plans in
+    let k = c.in_err-order.ensures.plans in
     let t = numbers_took n c.args.ctl.now c.plan.new.self _ _ _ _ c.requires.some c.requires.ready.own (to_z-of_z w32 _ f0) (to_z-of_z w32 _ f1) refl k in
-    let p = err_from_is_err_and c.from-residual.result c.from-residual.ensures.1 in
+    let p = err_from_is_err_and c.from_residual.result c.from_residual.ensures.1 in
     rw (p.1, p.2) (t, ap (λ x. x.pending) k.untouched ∙ c.requires.ready.idle)
 
 pub returns : goal.returns
@@ -23,7 +23,7 @@ returns c =
     let n = c.args.numbers.now in
     let f0 : SFits w32 (get_or n.values 0 (pos 0)) = search rules in
     let f1 : SFits w32 (get_or n.values 1 (pos 0)) = search rules in
-    let k = c.in-ok-order.ensures in
+    let k = c.in_ok-order.ensures in
     let d = c.plan.new.self in
     let t = numbers_took n c.args.ctl.now d _ _ _ _ c.requires.some c.requires.ready.own (to_z-of_z w32 _ f0) (to_z-of_z w32 _ f1) refl k.plans in
     let read = as_read d.plan ∙ ap granted_with (sym c.reading.ensures) in

@@ -14,4 +14,4 @@ returns c =
     let fy : SFits w8 y = search rules in
     let fz : SFits w8 z = search rules in
     let same = same_levels (to_z w8 (of_z w8 x)) (to_z w8 (of_z w8 y)) (to_z w8 (of_z w8 z)) (level_of p 0) (level_of p 1) (level_of p 2) (to_z-of_z w8 x fx ∙ c.level-a.ensures) (to_z-of_z w8 y fy ∙ c.level-b.ensures) (to_z-of_z w8 z fz ∙ c.level-c.ensures) in
-    record { puts = then (reword same c.put-levels-at.ensures.puts) c.put-search.ensures.puts; end = search rules }
+    record { puts = then (reword same c.put_levels-at.ensures.puts) c.put_search.ensures.puts; end = search rules }

@@ -18,8 +18,8 @@ ready c = record {
 pub respond-answer-requires : goal.respond-answer-requires
 respond-answer-requires c = ready c.args.self.now
 
-pub invariant-of-self : goal.invariant-of-self
-invariant-of-self c =
+pub invariant_of-self : goal.invariant_of-self
+invariant_of-self c =
     let line = c.args.line.now in
     let x = c.args.self.now in
     let d = c.respond-answer.new.ctl in
@@ -34,8 +34,8 @@ returns c =
       answers = record {
         wide = c.if-out-lt-ROOM.false;
         text = answer_text c.respond-answer.result;
-        written = c.put-answer.ensures.puts;
-        fits = c.put-answer.ensures.end;
+        written = c.put_answer.ensures.puts;
+        fits = c.put_answer.ensures.end;
         turn = turned (line_refusal line) (asked (words line)) x.file.now x.controller (said c.respond-answer.result) c.respond-answer.new.ctl c.respond-answer.ensures;
       };
       file = refl;

@@ -5,11 +5,11 @@ use Rattle.console.proofs.Reading.{digits_bound, digits_more, digits_none, few_d
 use Rattle.console.proofs.words.reading.unsigned.Goals as goal
 use Rattle.console.proofs.words.reading.unsigned.Goals.{then-b-lt48-via-then-b-lt48, then-b-lt48-via-else-b-lt48+then-b-gt57}
 
-pub overflow-mul-v : goal.overflow-mul-v
-overflow-mul-v c = omega (arith, seven_digits c.loop-b.v c.loop-b.b-index c.loop-b.invariant.0 (omega arith))
+pub overflow_mul-v : goal.overflow_mul-v
+overflow_mul-v c = omega (arith, seven_digits c.loop-b.v c.loop-b.b-index c.loop-b.invariant.0 (omega arith))
 
-pub overflow-add-v : goal.overflow-add-v
-overflow-add-v c = omega (arith, seven_digits c.loop-b.v c.loop-b.b-index c.loop-b.invariant.0 (omega arith))
+pub overflow_add-v : goal.overflow_add-v
+overflow_add-v c = omega (arith, seven_digits c.loop-b.v c.loop-b.b-index c.loop-b.invariant.0 (omega arith))
 
 outside : (c : goal.Joined-then-b-lt48) → (get_or c.args.digits.now c.loop-b.b-index 0 < 48) ⊎ (57 < get_or c.args.digits.now c.loop-b.b-index 0)
 outside c =
@@ -31,7 +31,7 @@ loop-b-preserved c = (
 
 pub returns : goal.returns
 returns c =
-    let some : 1 ≤ length c.args.digits.now = omega (arith, false-eqb _ 0 c.if-is-empty.ensures) in
+    let some : 1 ≤ length c.args.digits.now = omega (arith, false-eqb _ 0 c.if-is_empty.ensures) in
     record {
       is = sym (few_digits c.args.digits.now some c.if-digits-gt7.false ∙ sym c.loop-b.invariant.1 ∙ at_drop_all (digits_after c.loop-b.v) c.args.digits.now c.loop-b.b-index c.loop-b-test.false);
       small = seven_digits c.loop-b.v c.loop-b.b-index c.loop-b.invariant.0 (omega arith);
