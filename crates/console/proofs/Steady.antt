@@ -1,6 +1,10 @@
 -- The test of a logbook, and what it says.
 use Rattle.std.proofs.Common.{◌≡◌, ℕ, zero, suc, ◌*◌, ◌<◌, ◌≤◌, Bool, true, false, ◌&&◌, ltb, List, length, get_or, Some, None, Option, sym, refl, ap, ◌∙◌, subst, arith, ltb-true, lt-ltb, eq-eqb, eqb-true, le-leb, leb-true}
 use Rattle.file.specs.File.{TableData}
+use Rattle.legs.specs.declared.leg.Leg.{Ghosts as LegGhosts}
+use Rattle.legs.specs.declared.measure.Measure.{Ghosts as MeasureGhosts}
+use Rattle.legs.specs.declared.squared.Squared.{Squared}
+use Rattle.legs.specs.declared.stepped.Stepped.{Stepped}
 use Rattle.controller.specs.Law.{FullLength, LooksAhead, NextOnLegs, OnLegs, Stands}
 use Rattle.controller.specs.Logbook.{Logbook}
 use Rattle.controller.specs.View.{book_of}
@@ -83,13 +87,13 @@ standing_by b s =
     (and _ _ (next_whole b.plan s.next) (and _ _ (full_whole b.tables b.plan s.plan_full) (and _ _ (full_whole b.tables b.remembered s.remembered_full) (ahead_whole b.tables s.ahead))))
 
 -- a line's answer as its text
-pub turned : (o : Option Fault) (a : Option Asked) (file : List ℕ) (c : Npc) (r : Option (Reply ℕ)) (d : Npc) → Responds o a file c r d → Turn o a file (book_of c) (text_of r) (book_of d)
+pub turned : {ghosts_m : MeasureGhosts Squared ℕ} {ghosts_a ghosts_b ghosts_c : LegGhosts Stepped} → (o : Option Fault) (a : Option Asked) (file : List ℕ) (c : Npc ghosts_m ghosts_a ghosts_b ghosts_c) (r : Option (Reply ℕ)) (d : Npc ghosts_m ghosts_a ghosts_b ghosts_c) → Responds o a file c r d → Turn o a file (book_of c) (text_of r) (book_of d)
 turned (Some f) a file c r d k = (ap text_of k.0, ap book_of k.1)
 turned None None file c r d k = (ap text_of k.0, ap book_of k.1)
 turned None (Some a) file c r d k = (k.0, ap text_of k.1, k.2.performed)
 
 -- and the next line may come
-pub still_ready : (o : Option Fault) (a : Option Asked) (file : List ℕ) (c : Npc) (r : Option (Reply ℕ)) (d : Npc) → Responds o a file c r d → Ready c → Ready d
+pub still_ready : {ghosts_m : MeasureGhosts Squared ℕ} {ghosts_a ghosts_b ghosts_c : LegGhosts Stepped} → (o : Option Fault) (a : Option Asked) (file : List ℕ) (c : Npc ghosts_m ghosts_a ghosts_b ghosts_c) (r : Option (Reply ℕ)) (d : Npc ghosts_m ghosts_a ghosts_b ghosts_c) → Responds o a file c r d → Ready c → Ready d
 still_ready (Some f) a file c r d k h = subst (λ x. Ready x) (sym k.1) h
 still_ready None None file c r d k h = subst (λ x. Ready x) (sym k.1) h
 still_ready None (Some a) file c r d k h = k.2.ready

@@ -6,6 +6,10 @@ use Rattle.fault.specs.declared.Fault.{Fault}
 use Rattle.file.specs.File.{TableData}
 use Rattle.legs.specs.Kinds.{stepped}
 use Rattle.legs.specs.Measures.{squared}
+use Rattle.legs.specs.declared.leg.Leg.{Ghosts as LegGhosts}
+use Rattle.legs.specs.declared.measure.Measure.{Ghosts as MeasureGhosts}
+use Rattle.legs.specs.declared.squared.Squared.{Squared}
+use Rattle.legs.specs.declared.stepped.Stepped.{Stepped}
 use Rattle.controller.specs.Law.{Answered, AnsweredBy, PlanKept, Stands}
 use Rattle.controller.specs.Logbook.{Logbook, granted, plan_refusal, refusal, step}
 use Rattle.controller.specs.Problems.{Setup, built}
@@ -24,10 +28,10 @@ use Rattle.console.specs.Texts.{npc}
 use Rattle.console.specs.Turns.{identity, lent, npc_setup}
 
 -- what a controller is built with, by its legs
-abbrev pub setup_by : Npc → Setup ℕ
+abbrev pub setup_by : {ghosts_m : MeasureGhosts Squared ℕ} {ghosts_a ghosts_b ghosts_c : LegGhosts Stepped} → Npc ghosts_m ghosts_a ghosts_b ghosts_c → Setup ℕ
 setup_by c = built squared (stepped c.legs.a.below.reach c.legs.a.below.stride) (stepped c.legs.b.below.reach c.legs.b.below.stride) (stepped c.legs.c.below.reach c.legs.c.below.stride)
 
-pub setup_is : (c : Npc) → Own c → setup_by c ≡ npc_setup
+pub setup_is : {ghosts_m : MeasureGhosts Squared ℕ} {ghosts_a ghosts_b ghosts_c : LegGhosts Stepped} → (c : Npc ghosts_m ghosts_a ghosts_b ghosts_c) → Own c → setup_by c ≡ npc_setup
 setup_is c o =
     let a : stepped c.legs.a.below.reach c.legs.a.below.stride ≡ npc = ap (λ r. stepped r c.legs.a.below.stride) o.leg_a.0 ∙ ap (stepped 1) o.leg_a.1 in
     let b : stepped c.legs.b.below.reach c.legs.b.below.stride ≡ npc = ap (λ r. stepped r c.legs.b.below.stride) o.leg_b.0 ∙ ap (stepped 1) o.leg_b.1 in
@@ -35,7 +39,7 @@ setup_is c o =
     cc
 
 -- a call does not change whose controller it is
-own_on : (c d : Npc) (call : Call) (r : Reply ℕ) → Own c → Same c d → Answered npc_setup identity (book_of c) call r → book_of d ≡ step (book_of c) call r → Own d
+own_on : {ghosts_m : MeasureGhosts Squared ℕ} {ghosts_a ghosts_b ghosts_c : LegGhosts Stepped} → (c d : Npc ghosts_m ghosts_a ghosts_b ghosts_c) (call : Call) (r : Reply ℕ) → Own c → Same c d → Answered npc_setup identity (book_of c) call r → book_of d ≡ step (book_of c) call r → Own d
 own_on c d call r o s an after = record {
   identity_is = s.identity ∙ o.identity_is;
   leg_a = (ap (λ l. l.reach) s.leg_a ∙ o.leg_a.0, ap (λ l. l.stride) s.leg_a ∙ o.leg_a.1);
@@ -55,7 +59,7 @@ module _ (b : Logbook) (i : List ℤ) (y : Bor (List ℤ)) where
   step_alike (Planned p) = refl
   step_alike (Denied f) = refl
 
-pub plan_took : (c d : Npc) (i : List ℤ) (y : Bor (List ℤ)) (r : Reply ℕ) (j ys : List ℤ) → Own c → i ≡ j → y.now ≡ ys → Plans (setup_by c) c (Plan i y) r d → Took c (Plan j (lent ys)) r d
+pub plan_took : {ghosts_m : MeasureGhosts Squared ℕ} {ghosts_a ghosts_b ghosts_c : LegGhosts Stepped} → (c d : Npc ghosts_m ghosts_a ghosts_b ghosts_c) (i : List ℤ) (y : Bor (List ℤ)) (r : Reply ℕ) (j ys : List ℤ) → Own c → i ≡ j → y.now ≡ ys → Plans (setup_by c) c (Plan i y) r d → Took c (Plan j (lent ys)) r d
 plan_took c d i y r j ys o p q k =
     let s = setup_is c o in
     let b = book_of c in
@@ -85,7 +89,7 @@ past_two n vs h =
     let e : 2 + (n - 2) ≡ n = omega arith in
     sym (drop-take 2 (n - 2) vs) ∙ ap (λ k. drop 2 (take k vs)) e
 
-pub numbers_took : (n : Numbers) (c d : Npc) (x y : ℤ) (refs : Bor (List ℤ)) (r : Reply ℕ) → 2 ≤ n.count → Own c → x ≡ get_or n.values 0 (pos 0) → y ≡ get_or n.values 1 (pos 0) → refs.now ≡ take (n.count - 2) (drop 2 n.values) → Plans (setup_by c) c (Plan (x ∷ (y ∷ [])) refs) r d → Took c (Plan (take 2 (values_of n)) (lent (drop 2 (values_of n)))) r d
+pub numbers_took : {ghosts_m : MeasureGhosts Squared ℕ} {ghosts_a ghosts_b ghosts_c : LegGhosts Stepped} → (n : Numbers) (c d : Npc ghosts_m ghosts_a ghosts_b ghosts_c) (x y : ℤ) (refs : Bor (List ℤ)) (r : Reply ℕ) → 2 ≤ n.count → Own c → x ≡ get_or n.values 0 (pos 0) → y ≡ get_or n.values 1 (pos 0) → refs.now ≡ take (n.count - 2) (drop 2 n.values) → Plans (setup_by c) c (Plan (x ∷ (y ∷ [])) refs) r d → Took c (Plan (take 2 (values_of n)) (lent (drop 2 (values_of n)))) r d
 numbers_took n c d x y refs r some o p q e k =
     let vs = n.values in
     let currents : x ∷ (y ∷ []) ≡ take 2 (values_of n) = ap (λ z. z ∷ (y ∷ [])) p ∙ ap (λ z. get_or vs 0 (pos 0) ∷ (z ∷ [])) q ∙ first_two n.count vs some (omega (arith, n.long)) in

@@ -1,6 +1,8 @@
 -- The console's controller between two lines, and one call on it.
 use Rattle.std.specs.Prelude.{◌≡◌, ℕ, ◌≤◌, true, false, List, Some, None, Ok, Err, Option, Result}
 use Rattle.fault.specs.declared.Fault.{Fault}
+use Rattle.legs.specs.declared.leg.Leg.{Ghosts as LegGhosts}
+use Rattle.legs.specs.declared.measure.Measure.{Ghosts as MeasureGhosts}
 use Rattle.legs.specs.declared.squared.Squared.{Squared}
 use Rattle.legs.specs.declared.stepped.Stepped.{Stepped}
 use Rattle.controller.specs.Law.{Answered, Stands}
@@ -17,15 +19,15 @@ use Rattle.console.specs.declared.requests.Request.{Request}
 use Rattle.console.specs.declared.requests.Request.TheVariants.{Load as LoadRequest, Limit as LimitRequest, Bar as BarRequest, Free as FreeRequest, Step as StepRequest, Try as TryRequest}
 use Rattle.console.specs.Turns.{Performed, identity, npc_setup}
 
--- a controller of three legs of these kinds
-abbrev pub Npc : Type 0
-Npc = Controller Squared Stepped Stepped Stepped ℕ
+-- a controller of three legs of these kinds, by the ghost members of its measure and its legs
+abbrev pub Npc : MeasureGhosts Squared ℕ → LegGhosts Stepped → LegGhosts Stepped → LegGhosts Stepped → Type 0
+Npc m a b c = Controller Squared Stepped Stepped Stepped ℕ m a b c
 
 abbrev pub IsNpc : Stepped → Type 0
 IsNpc leg = (leg.reach ≡ 1) × (leg.stride ≡ 1)
 
 -- it is the console's
-pub record Own (c : Npc) : Type 0 where
+pub record Own {ghosts_m : MeasureGhosts Squared ℕ} {ghosts_a ghosts_b ghosts_c : LegGhosts Stepped} (c : Npc ghosts_m ghosts_a ghosts_b ghosts_c) : Type 0 where
   pub identity_is : c.identity ≡ identity
   pub leg_a : IsNpc c.legs.a.below
   pub leg_b : IsNpc c.legs.b.below
@@ -33,18 +35,18 @@ pub record Own (c : Npc) : Type 0 where
   pub stands : Stands npc_setup (book_of c)
 
 -- and no order is open
-pub record Ready (c : Npc) : Type 0 where
+pub record Ready {ghosts_m : MeasureGhosts Squared ℕ} {ghosts_a ghosts_b ghosts_c : LegGhosts Stepped} (c : Npc ghosts_m ghosts_a ghosts_b ghosts_c) : Type 0 where
   pub own : Own c
   pub idle : c.pending ≡ false
 
 -- a call was answered by the law, and the logbook goes on with it
-pub record Took (c : Npc) (call : Call) (r : Reply ℕ) (d : Npc) : Type 0 where
+pub record Took {ghosts_m : MeasureGhosts Squared ℕ} {ghosts_a ghosts_b ghosts_c : LegGhosts Stepped} (c : Npc ghosts_m ghosts_a ghosts_b ghosts_c) (call : Call) (r : Reply ℕ) (d : Npc ghosts_m ghosts_a ghosts_b ghosts_c) : Type 0 where
   pub answers : Answered npc_setup identity (book_of c) call r
   pub after : book_of d ≡ step (book_of c) call r
   pub own : Own d
 
 -- what is asked for is done, and the next line may come
-pub record Done (file : List ℕ) (a : Asked) (c : Npc) (r : Reply ℕ) (d : Npc) : Type 0 where
+pub record Done {ghosts_m : MeasureGhosts Squared ℕ} {ghosts_a ghosts_b ghosts_c : LegGhosts Stepped} (file : List ℕ) (a : Asked) (c : Npc ghosts_m ghosts_a ghosts_b ghosts_c) (r : Reply ℕ) (d : Npc ghosts_m ghosts_a ghosts_b ghosts_c) : Type 0 where
   pub performed : Performed file a (book_of c) r (book_of d)
   pub ready : Ready d
 
@@ -59,7 +61,7 @@ reply_of (Ok p) = granted_with p
 reply_of (Err f) = Denied f
 
 -- a plan opens an order of its controller; one that is refused opens none
-abbrev pub Opened : Npc → Call → Result (Order × Option (Reading ℕ)) Fault → Npc → Type 0
+abbrev pub Opened : {ghosts_m : MeasureGhosts Squared ℕ} {ghosts_a ghosts_b ghosts_c : LegGhosts Stepped} → Npc ghosts_m ghosts_a ghosts_b ghosts_c → Call → Result (Order × Option (Reading ℕ)) Fault → Npc ghosts_m ghosts_a ghosts_b ghosts_c → Type 0
 Opened c call (Ok x) d = Took c call (granted_with x.1) d × (d.pending ≡ true) × (x.0.identity ≡ d.identity)
 Opened c call (Err f) d = Took c call (Denied f) d × (d.pending ≡ false)
 

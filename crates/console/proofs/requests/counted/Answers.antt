@@ -20,7 +20,7 @@ returns-then-found-least c =
     let end = end_column c.args.words.now in
     let got = granted (numbers_refusal c.args.most ws) (λ n. NumbersRead c.args.most c.args.words.now n c.numbers.new.words) c.in_ok-found.found c.in_ok-found.ensures in
     let e = too_few c.args.least c.args.most end ws got.0 c.in_ok-found.found.count got.1.count_is c.if-found-least.true c.requires.order in
-    rw e (c.console_fault.ensures ∙ ap (console_fault 44) (c.end_column.ensures ∙ got.1.End-same))
+    rw e (c.console_fault.ensures ∙ ap (console_fault 44) (c.end_column.ensures ∙ got.1.end_same))
 
 pub returns-in_err-ended : goal.returns-in_err-ended
 returns-in_err-ended c =

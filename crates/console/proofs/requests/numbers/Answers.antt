@@ -33,4 +33,4 @@ returns c =
       | then-loop-count-test+in-End w ↦ subst (λ x. Gathered _ _ _ _ _ so x) (sym w.words-is) (no_more _ _ _ _ _ so w.next.new.self _ _ w.in-End.ensures.first w.in-End.ensures.left w.in-End.ensures.end)
     ]
     in
-    rw g.none_refused (record { values_are = g.values_are; left_are = g.left_are; count_is = g.count_is; end_same = g.end-is })
+    rw g.none_refused (record { values_are = g.values_are; left_are = g.left_are; count_is = g.count_is; end_same = g.end_is })

@@ -24,7 +24,14 @@ invariant_of-self c =
     let x = c.args.self.now in
     let d = c.respond-answer.new.ctl in
     let r = still_ready (line_refusal line) (asked (words line)) x.file.now x.controller (said c.respond-answer.result) d c.respond-answer.ensures (ready x) in
-    (r.own.identity_is, (r.idle, (r.own.leg_a, (r.own.leg_b, (r.own.leg_c, (standing_by (book_of d) r.own.stands, tt))))))
+    record {
+      identity = r.own.identity_is;
+      idle = r.idle;
+      leg_a = r.own.leg_a;
+      leg_b = r.own.leg_b;
+      leg_c = r.own.leg_c;
+      stands = standing_by (book_of d) r.own.stands;
+    }
 
 pub returns : goal.returns
 returns c =
