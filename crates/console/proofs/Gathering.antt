@@ -1,12 +1,12 @@
 -- Numbers gathered one by one off a line.
-use Rattle.std.proofs.Common.{◌≡◌, ℕ, zero, suc, ◌+◌, ◌-◌, ◌<◌, ◌≤◌, List, [], ◌∷◌, ◌++◌, map, length, take, drop, set, ℤ, pos, Some, None, Err, Option, unwrap_or, sym, refl, ap, ◌∙◌, subst, append_assoc, append-nil, arith, length-set, Bor, le-leb}
+use Rattle.std.proofs.Common.{◌≡◌, ℕ, zero, suc, ◌+◌, ◌-◌, ◌<◌, ◌≤◌, List, [], ◌∷◌, ◌++◌, length, take, drop, set, ℤ, pos, Some, None, Err, Option, unwrap_or, sym, refl, ap, ◌∙◌, append_assoc, append-nil, arith, length-set, Bor, le-leb}
 use borrow.Author.Tests.{lt-leb}
 use Rattle.std.proofs.lemmas.List.{length-drop, length-take, take_all, take_more_set}
 use Rattle.fault.specs.Refusals.{Answers, first_of, unless}
 use Rattle.fault.specs.declared.Fault.{Fault}
 use Rattle.console.specs.Lines.{console_fault, count_refusal, left_over, no_number, numbers_refusal, values}
 use Rattle.console.specs.Tokens.{First, end_column, left, others}
-use Rattle.console.specs.Words.{Word, number}
+use Rattle.console.specs.Words.{Word}
 use Rattle.console.specs.declared.words.Token.TheVariants.{Number, Name, End}
 use Rattle.console.specs.declared.words.Words.{Words}
 

@@ -1,15 +1,15 @@
 -- Reading words and numbers, byte by byte.
-use Rattle.std.proofs.Common.{◌≡◌, ℕ, zero, suc, ◌+◌, ◌-◌, ◌*◌, ◌^◌, ◌<◌, ◌≤◌, Bool, true, false, cond, not, ◌&&◌, eqb, leb, ◌⊎◌, List, [], ◌∷◌, length, get_or, take, drop, ℤ, pos, neg_ℤ, Some, None, Option, sym, refl, ap, ◌∙◌, subst, inl, inr, ⊎_elim, pow-suc, add-one, arith, eq-eqb, ne_eqb, le-leb}
+use Rattle.std.proofs.Common.{◌≡◌, ℕ, zero, suc, ◌+◌, ◌-◌, ◌*◌, ◌^◌, ◌<◌, ◌≤◌, Bool, true, false, cond, not, ◌&&◌, ◌⊎◌, List, [], ◌∷◌, length, get_or, take, drop, pos, neg_ℤ, None, sym, refl, ap, ◌∙◌, subst, inl, inr, ⊎_elim, pow-suc, add-one, arith, eq-eqb, ne_eqb, le-leb}
 use native.Mathlib.Nat.{pow-le-pow_right}
 use Rattle.std.proofs.lemmas.Bool.{cases_lt}
 use borrow.Author.Tests.{lt-leb}
-use Rattle.std.proofs.lemmas.List.{at_drop_more, at_drop_all, get_or-drop, length-drop}
+use Rattle.std.proofs.lemmas.List.{at_drop_more, at_drop_all}
 use Rattle.std.proofs.lemmas.Slice.{first_rest}
 use Rattle.std.specs.Option.{option_map}
 use Rattle.console.specs.declared.words.Token.{Token}
 use Rattle.console.specs.declared.words.Token.TheVariants.{Number, Name, End}
 use Rattle.console.specs.Tokens.{First}
-use Rattle.console.specs.Words.{Word, digits_after, goes_on, is_space, magnitude, number, put_before, words_from}
+use Rattle.console.specs.Words.{Word, digits_after, goes_on, magnitude, number, put_before, words_from}
 
 module _ {X : Type 0} where
   tested : (p q : Bool) (x y : X) → p ≡ true → q ≡ true → cond (p && q) x y ≡ x

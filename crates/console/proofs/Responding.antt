@@ -1,5 +1,5 @@
 -- From what a line asks for to its answer.
-use Rattle.std.proofs.Common.{◌≡◌, ℕ, List, Some, None, Ok, Err, Option, sym, refl, ap, subst}
+use Rattle.std.proofs.Common.{ℕ, List, Some, None, Ok, Err, Option, sym, refl, ap, subst}
 use Rattle.fault.specs.Refusals.{Answers}
 use Rattle.fault.specs.declared.Fault.{Fault}
 use Rattle.legs.specs.declared.leg.Leg.{Ghosts as LegGhosts}

@@ -1,5 +1,5 @@
 -- From the first word of a line to what the line asks for.
-use Rattle.std.proofs.Common.{◌≡◌, ℕ, ◌+◌, ◌≤◌, List, [], ◌∷◌, length, ℤ, Some, None, Ok, Option, Result, sym, refl, ap, ◌∙◌, subst, Bor, le-leb}
+use Rattle.std.proofs.Common.{◌≡◌, ℕ, ◌+◌, ◌≤◌, List, [], ◌∷◌, length, ℤ, None, Ok, Option, Result, refl, ap, subst, Bor, le-leb}
 use Rattle.fault.specs.Refusals.{Answers, first_of, unless}
 use Rattle.fault.specs.declared.Fault.{Fault}
 use Rattle.console.specs.Lines.{asked, command_refusal, commanded, console_fault, line_refusal, longest_line, verb, words_refusal}

@@ -1,5 +1,5 @@
 -- The test of a logbook, and what it says.
-use Rattle.std.proofs.Common.{◌≡◌, ℕ, zero, suc, ◌*◌, ◌<◌, ◌≤◌, Bool, true, false, ◌&&◌, ltb, List, length, get_or, Some, None, Option, sym, refl, ap, ◌∙◌, subst, arith, ltb-true, lt-ltb, eq-eqb, eqb-true, le-leb, leb-true}
+use Rattle.std.proofs.Common.{◌≡◌, ℕ, zero, suc, ◌*◌, ◌<◌, Bool, true, false, ◌&&◌, ltb, List, length, get_or, Some, None, Option, sym, refl, ap, ◌∙◌, subst, arith, ltb-true, lt-ltb, eq-eqb, eqb-true, le-leb, leb-true}
 use Rattle.file.specs.File.{TableData}
 use Rattle.legs.specs.declared.leg.Leg.{Ghosts as LegGhosts}
 use Rattle.legs.specs.declared.measure.Measure.{Ghosts as MeasureGhosts}

@@ -1,27 +1,25 @@
 -- One call on the console's controller.
-use Rattle.std.proofs.Common.{◌≡◌, ℕ, zero, suc, ◌+◌, ◌-◌, ◌≤◌, Bool, true, false, List, [], ◌∷◌, length, get_or, take, drop, ℤ, pos, Some, None, Option, sym, refl, ap, ◌∙◌, subst, arith, Bor}
+use Rattle.std.proofs.Common.{◌≡◌, ℕ, zero, suc, ◌+◌, ◌-◌, ◌≤◌, List, [], ◌∷◌, length, get_or, take, drop, ℤ, pos, Some, None, Option, sym, refl, ap, ◌∙◌, subst, arith, Bor}
 use Rattle.std.proofs.lemmas.List.{drop-take}
 use Rattle.std.specs.Option.{option_map}
 use Rattle.fault.specs.declared.Fault.{Fault}
-use Rattle.file.specs.File.{TableData}
 use Rattle.legs.specs.Kinds.{stepped}
 use Rattle.legs.specs.Measures.{squared}
 use Rattle.legs.specs.declared.leg.Leg.{Ghosts as LegGhosts}
 use Rattle.legs.specs.declared.measure.Measure.{Ghosts as MeasureGhosts}
 use Rattle.legs.specs.declared.squared.Squared.{Squared}
 use Rattle.legs.specs.declared.stepped.Stepped.{Stepped}
-use Rattle.controller.specs.Law.{Answered, AnsweredBy, PlanKept, Stands}
-use Rattle.controller.specs.Logbook.{Logbook, granted, plan_refusal, refusal, step}
+use Rattle.controller.specs.Law.{Answered, AnsweredBy, Stands}
+use Rattle.controller.specs.Logbook.{Logbook, refusal, step}
 use Rattle.controller.specs.Problems.{Setup, built}
-use Rattle.controller.specs.View.{Does, Plans, Same, answer, book_of, planned, reading_of}
+use Rattle.controller.specs.View.{Plans, Same, book_of, planned, reading_of}
 use Rattle.controller.specs.declared.calls.Call.{Call}
-use Rattle.controller.specs.declared.calls.Call.TheVariants.{Load, Limit, Bar, Free, Plan, Fire, Withdraw}
-use Rattle.controller.specs.declared.calls.Reading.{Reading}
+use Rattle.controller.specs.declared.calls.Call.TheVariants.{Plan}
 use Rattle.controller.specs.declared.calls.Reply.{Reply}
 use Rattle.controller.specs.declared.calls.Reply.TheVariants.{Granted, Planned, Denied}
 use Rattle.controller.proofs.Standing.{stands_step}
 use Rattle.controller.specs.declared.sequence.Plan.{Plan as PlanOf}
-use Rattle.console.specs.Ready.{Npc, Own, Ready, Took, granted_with}
+use Rattle.console.specs.Ready.{Npc, Own, Took, granted_with}
 use Rattle.console.specs.Requests.{values_of}
 use Rattle.console.specs.declared.numbers.Numbers.{Numbers}
 use Rattle.console.specs.Texts.{npc}

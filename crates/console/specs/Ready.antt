@@ -7,7 +7,7 @@ use Rattle.legs.specs.declared.squared.Squared.{Squared}
 use Rattle.legs.specs.declared.stepped.Stepped.{Stepped}
 use Rattle.controller.specs.Law.{Answered, Stands}
 use Rattle.controller.specs.Logbook.{step}
-use Rattle.controller.specs.View.{Same, book_of}
+use Rattle.controller.specs.View.{book_of}
 use Rattle.controller.specs.declared.calls.Call.{Call}
 use Rattle.controller.specs.declared.calls.Reading.{Reading}
 use Rattle.controller.specs.declared.calls.Reply.{Reply}

@@ -1,5 +1,5 @@
 -- The front of a line that grows.
-use Rattle.std.proofs.Common.{◌≡◌, ℕ, ◌+◌, ◌<◌, ◌≤◌, List, [], ◌∷◌, ◌++◌, length, take, set, sym, refl, ap, ◌∙◌, subst, arith, length-append}
+use Rattle.std.proofs.Common.{◌≡◌, ℕ, ◌+◌, ◌<◌, List, [], ◌∷◌, ◌++◌, length, take, set, sym, ◌∙◌, arith, length-append}
 use Rattle.std.proofs.lemmas.List.{take_more_set, take_all, take-append-le, length-take-le}
 
 pub stored : (xs : List ℕ) (n b : ℕ) → length xs ≡ 121 → n < 121 → take (n + 1) (set xs n b) ≡ take 121 (take n xs ++ (b ∷ []))

@@ -1,5 +1,4 @@
-use Rattle.std.proofs.Common.{◌≡◌, ◌++◌, ◌∙◌, append_assoc, rules}
-use Rattle.fault.specs.Printed.{layer_word}
+use Rattle.std.proofs.Common.{◌∙◌, append_assoc, rules}
 use Rattle.console.proofs.Writing.{reword, then}
 use Rattle.console.proofs.printing.put_fault.Goals as goal
 

@@ -1,4 +1,4 @@
-use Rattle.std.proofs.Common.{ap, arith, w8, SFits, rules}
+use Rattle.std.proofs.Common.{ap, w8, SFits, rules}
 use Rattle.std.proofs.lemmas.Int.{to_z-of_z}
 use Rattle.std.specs.Fmt.{signed_decimal}
 use Rattle.console.proofs.Writing.{reword, then}

@@ -1,4 +1,4 @@
-use Rattle.std.proofs.Common.{◌≡◌, ◌∙◌, w8, SFits, to_z, of_z, rules}
+use Rattle.std.proofs.Common.{◌∙◌, w8, SFits, to_z, of_z, rules}
 use Rattle.std.proofs.lemmas.Int.{to_z-of_z}
 use Rattle.console.specs.Texts.{level_of}
 use Rattle.console.proofs.Writing.{reword, same_levels, then}

@@ -1,7 +1,6 @@
-use Rattle.std.proofs.Common.{◌≡◌, ◌≤◌, take, drop, Some, None, sym, ap, ◌∙◌, subst, rules}
+use Rattle.std.proofs.Common.{◌≡◌, drop, Some, None, sym, ap, ◌∙◌}
 use Rattle.std.proofs.lemmas.Result.{err_from_is_err_and}
 use Rattle.fault.proofs.Answered.{granted, passed_on}
-use Rattle.fault.specs.Refusals.{first_of}
 use Rattle.console.specs.Lines.{console_fault, count_refusal, left_over, numbers_refusal, values}
 use Rattle.console.specs.Requests.{NumbersRead}
 use Rattle.console.specs.Tokens.{end_column, left}

@@ -1,4 +1,4 @@
-use Rattle.std.proofs.Common.{◌≡◌, ℕ, ◌+◌, ◌-◌, set, Some, None, sym, ap, ◌∙◌, subst, w32, SFits, rules}
+use Rattle.std.proofs.Common.{◌≡◌, ℕ, ◌+◌, ◌-◌, set, Some, sym, ap, ◌∙◌, subst, w32, SFits, rules}
 use Rattle.std.proofs.lemmas.Int.{to_z-of_z}
 use Rattle.console.specs.Lines.{console_fault, numbers_refusal}
 use Rattle.console.specs.Tokens.{left}

@@ -1,4 +1,4 @@
-use Rattle.std.proofs.Common.{◌≡◌, ◌-◌, ◌≤◌, length}
+use Rattle.std.proofs.Common.{◌-◌}
 use Rattle.console.proofs.Gathering.{SoFar}
 use Rattle.console.proofs.requests.numbers.Given as goal
 

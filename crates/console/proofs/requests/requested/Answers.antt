@@ -1,5 +1,5 @@
-use Rattle.std.proofs.Common.{◌≡◌, ◌≤◌, length, sym, ap, ◌∙◌, subst, rules}
-use Rattle.console.specs.Tokens.{First, end_column, left}
+use Rattle.std.proofs.Common.{sym, ◌∙◌, rules}
+use Rattle.console.specs.Tokens.{end_column, left}
 use Rattle.console.proofs.Speaking.{by_name, by_number, said}
 use Rattle.console.proofs.requests.requested.Goals as goal
 

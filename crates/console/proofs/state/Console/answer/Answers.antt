@@ -1,7 +1,7 @@
-use Rattle.std.proofs.Common.{◌≡◌, sym, refl, ap, subst, arith, rules}
+use Rattle.std.proofs.Common.{refl}
 use Rattle.controller.specs.View.{book_of}
 use Rattle.console.specs.Lines.{asked, line_refusal}
-use Rattle.console.specs.Ready.{Npc, Ready}
+use Rattle.console.specs.Ready.{Ready}
 use Rattle.console.specs.Said.{answer_text, said}
 use Rattle.console.specs.Words.{words}
 use Rattle.console.specs.declared.state.Console.{Console}

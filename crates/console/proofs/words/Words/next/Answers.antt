@@ -1,6 +1,6 @@
-use Rattle.std.proofs.Common.{◌≡◌, ◌+◌, ◌<◌, List, [], ◌∷◌, length, drop, sym, refl, ap, ◌∙◌, subst, arith, rules}
+use Rattle.std.proofs.Common.{◌≡◌, ◌+◌, ◌<◌, [], length, drop, sym, refl, ap, ◌∙◌, subst, arith}
 use Rattle.console.specs.Tokens.{First, others}
-use Rattle.console.specs.Words.{Word, words_from}
+use Rattle.console.specs.Words.{words_from}
 use Rattle.console.specs.declared.words.Token.TheVariants.{End}
 use Rattle.console.proofs.Reading.{first_before, no_word, word_at}
 use Rattle.console.proofs.words.Words.next.Goals as goal

@@ -1,4 +1,4 @@
-use Rattle.std.proofs.Common.{◌∙◌, arith, rules}
+use Rattle.std.proofs.Common.{◌∙◌, rules}
 use Rattle.console.proofs.Reading.{space_more}
 use Rattle.console.proofs.words.reading.past_spaces.Goals as goal
 

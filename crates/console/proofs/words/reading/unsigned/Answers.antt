@@ -1,4 +1,4 @@
-use Rattle.std.proofs.Common.{◌≡◌, ◌<◌, ◌≤◌, ◌⊎◌, length, get_or, sym, ◌∙◌, inl, inr, arith, false-eqb}
+use Rattle.std.proofs.Common.{◌<◌, ◌≤◌, ◌⊎◌, length, get_or, sym, ◌∙◌, inl, inr, arith, false-eqb}
 use Rattle.std.proofs.lemmas.List.{at_drop_all}
 use Rattle.console.specs.Words.{digits_after}
 use Rattle.console.proofs.Reading.{digits_bound, digits_more, digits_none, few_digits, seven_digits}
