@@ -16,14 +16,16 @@ import sys
 STOP = r"\s(){}\[\];,.«»⌜⌝|@\"`"
 # Names of a fact or a theorem, which are spelled like a type.
 FACTS = {
-    "All-within": "AllWithin",
+    "All-within": "EachWithin",
     "Counts-are-meant": "CountsAreMeant",
     "Rounded-down": "RoundedDown",
     "Rounding-rows": "RoundingRows",
     "S-feasible": "start_is_feasible",
 }
-# Names in camel case, or with a sign that a word has not.
+# Names in camel case, or with a sign that a word has not, and one that the toolchain has for a tactic.
 OTHER = {
+    "first_of": "first_some",
+    "first-of": "first_some",
     "dropLast-short": "drop_last_short",
     "getD-backward": "get_or_backward",
     "fullsOf": "fulls_of",
@@ -41,6 +43,12 @@ ALIASES = {
     "Counts-of": "counts_of",
     "Cells-of": "cells_of",
     "type_size": "size_of",
+    "pos'": "pos",
+}
+# Local names with a dash.
+LOCAL = {
+    "levels-fit": "levels_fit",
+    "masks-fit": "masks_fit",
 }
 
 
@@ -124,6 +132,10 @@ def respell_aliases(path):
     if re.search(r"AllByRecursion as All(?=[,}])", text):
         text = re.sub(r"AllByRecursion as All(?=[,}])", "AllByRecursion", text)
         names["All"] = "AllByRecursion"
+    if path.endswith(".rt") and re.search(r"\{[^}]*\bget_or\b[^}]*\}", text):
+        text = re.sub(r"\bget_or, |, get_or\b(?=[,}])", "", text) if "slice_index_or" in text else text
+        names["get_or"] = "slice_index_or"
+    names.update({n: new for n, new in LOCAL.items() if n in text and path.endswith(".rt")})
     if not names:
         return False
     there = set(re.findall("[^%s]+" % STOP, text))
@@ -134,7 +146,7 @@ def respell_aliases(path):
     rt = path.endswith(".rt")
     lines = ["".join(pattern.sub(lambda m: names[m.group(1)], t) if may else t for t, may in parts(line, rt)) for line in text.split("\n")]
     with open(path, "w", encoding="utf-8") as f:
-        f.write("\n".join(lines))
+        f.write(re.sub(r"\b(\w+) as \1(?=[,}])", r"\1", "\n".join(lines)))
     return True
 
 
@@ -175,6 +187,8 @@ def main():
 
         def turn(m):
             n = m.group(1)
+            if n == "first_of" and not path.endswith("fault/specs/Refusals.antt") and not re.search(r"fault\.specs\.Refusals\.\{[^}]*\bfirst_of\b", text):
+                return n  # the tactic
             if n in library:
                 print("left alone, a library's: %s in %s" % (n, path))
                 return n

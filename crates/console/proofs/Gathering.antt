@@ -2,7 +2,7 @@
 use Rattle.std.proofs.Common.{◌≡◌, ℕ, zero, suc, ◌+◌, ◌-◌, ◌<◌, ◌≤◌, List, [], ◌∷◌, ◌++◌, length, take, drop, set, ℤ, pos, Some, None, Err, Option, unwrap_or, sym, refl, ap, ◌∙◌, append_assoc, append-nil, arith, length-set, Bor, le-leb}
 use borrow.Author.Tests.{lt-leb}
 use Rattle.std.proofs.lemmas.List.{length-drop, length-take, take_all, take_more_set}
-use Rattle.fault.specs.Refusals.{Answers, first_of, unless}
+use Rattle.fault.specs.Refusals.{Answers, first_some, unless}
 use Rattle.fault.specs.declared.Fault.{Fault}
 use Rattle.console.specs.Lines.{console_fault, count_refusal, left_over, no_number, numbers_refusal, values}
 use Rattle.console.specs.Tokens.{First, end_column, left, others}
@@ -32,7 +32,7 @@ module _ {X : Type 0} where
 -- a number in front
 number_passes : (m end c : ℕ) (bs : Bor (List ℕ)) (v : ℤ) (ws : List Word) → First end ws (Number c bs v) → numbers_refusal (suc m) ws ≡ numbers_refusal m (others ws)
 number_passes m end c bs v [] f = absurd f
-number_passes m end c bs v (w ∷ ws) f = ap (λ o. first_of (no_number w.column o) (numbers_refusal m ws)) f.2
+number_passes m end c bs v (w ∷ ws) f = ap (λ o. first_some (no_number w.column o) (numbers_refusal m ws)) f.2
 
 number_value : (m end c : ℕ) (bs : Bor (List ℕ)) (v : ℤ) (ws : List Word) → First end ws (Number c bs v) → values (take (suc m) ws) ≡ v ∷ values (take m (others ws))
 number_value m end c bs v [] f = absurd f
@@ -49,7 +49,7 @@ drop_others m (w ∷ ws) = refl
 -- another word in front
 pub name_refused : (m end c : ℕ) (bs : Bor (List ℕ)) (ws : List Word) → First end ws (Name c bs) → numbers_refusal (suc m) ws ≡ Some (console_fault 43 c)
 name_refused m end c bs [] f = absurd f
-name_refused m end c bs (w ∷ ws) f = ap (λ o. first_of (no_number w.column o) (numbers_refusal m ws)) f.2 ∙ ap (λ k. Some (console_fault 43 k)) (sym f.0)
+name_refused m end c bs (w ∷ ws) f = ap (λ o. first_some (no_number w.column o) (numbers_refusal m ws)) f.2 ∙ ap (λ k. Some (console_fault 43 k)) (sym f.0)
 
 pub nothing_left : (end c : ℕ) (ws : List Word) → First end ws (End c) → ws ≡ []
 nothing_left end c [] f = refl
@@ -124,23 +124,23 @@ refused_is None P f a = absurd a
 refused_is (Some g) P f a = ap (λ x. Some x) (sym a)
 
 module _ (least most end : ℕ) (ws : List Word) (fine : numbers_refusal most ws ≡ None) where
-  counts_only : (o : Option Fault) → count_refusal least most end ws ≡ o → first_of (numbers_refusal most ws) (count_refusal least most end ws) ≡ o
-  counts_only o e = ap (λ x. first_of x (count_refusal least most end ws)) fine ∙ e
+  counts_only : (o : Option Fault) → count_refusal least most end ws ≡ o → first_some (numbers_refusal most ws) (count_refusal least most end ws) ≡ o
+  counts_only o e = ap (λ x. first_some x (count_refusal least most end ws)) fine ∙ e
 
-  pub too_few : (count : ℕ) → count ≡ length (take most ws) → count < least → least ≤ most → first_of (numbers_refusal most ws) (count_refusal least most end ws) ≡ Some (console_fault 44 end)
+  pub too_few : (count : ℕ) → count ≡ length (take most ws) → count < least → least ≤ most → first_some (numbers_refusal most ws) (count_refusal least most end ws) ≡ Some (console_fault 44 end)
   too_few count is lt le =
       let short : length ws < least = omega (arith, length-take most ws) in
-      counts_only _ (ap (λ t. first_of (unless t (console_fault 44 end)) (left_over (drop most ws))) (lt-leb least (length ws) short))
+      counts_only _ (ap (λ t. first_some (unless t (console_fault 44 end)) (left_over (drop most ws))) (lt-leb least (length ws) short))
 
   enough_words : (count : ℕ) → count ≡ length (take most ws) → least ≤ count → count_refusal least most end ws ≡ left_over (drop most ws)
   enough_words count is le =
       let many : least ≤ length ws = omega (arith, length-take most ws) in
-      ap (λ t. first_of (unless t (console_fault 44 end)) (left_over (drop most ws))) (le-leb least (length ws) many)
+      ap (λ t. first_some (unless t (console_fault 44 end)) (left_over (drop most ws))) (le-leb least (length ws) many)
 
-  pub too_many : (count : ℕ) (f : Fault) → count ≡ length (take most ws) → least ≤ count → left_over (drop most ws) ≡ Some f → first_of (numbers_refusal most ws) (count_refusal least most end ws) ≡ Some f
+  pub too_many : (count : ℕ) (f : Fault) → count ≡ length (take most ws) → least ≤ count → left_over (drop most ws) ≡ Some f → first_some (numbers_refusal most ws) (count_refusal least most end ws) ≡ Some f
   too_many count f is le e = counts_only _ (enough_words count is le ∙ e)
 
-  pub just_right : (count : ℕ) → count ≡ length (take most ws) → least ≤ count → left_over (drop most ws) ≡ None → first_of (numbers_refusal most ws) (count_refusal least most end ws) ≡ None
+  pub just_right : (count : ℕ) → count ≡ length (take most ws) → least ≤ count → left_over (drop most ws) ≡ None → first_some (numbers_refusal most ws) (count_refusal least most end ws) ≡ None
   just_right count is le e = counts_only _ (enough_words count is le ∙ e)
 
 no_left_over : (ws : List Word) → left_over ws ≡ None → length ws ≡ 0

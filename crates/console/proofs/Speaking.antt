@@ -1,6 +1,6 @@
 -- From the first word of a line to what the line asks for.
 use Rattle.std.proofs.Common.{◌≡◌, ℕ, ◌+◌, ◌≤◌, List, [], ◌∷◌, length, ℤ, None, Ok, Option, Result, refl, ap, subst, Bor, le-leb}
-use Rattle.fault.specs.Refusals.{Answers, first_of, unless}
+use Rattle.fault.specs.Refusals.{Answers, first_some, unless}
 use Rattle.fault.specs.declared.Fault.{Fault}
 use Rattle.console.specs.Lines.{asked, command_refusal, commanded, console_fault, line_refusal, longest_line, verb, words_refusal}
 use Rattle.console.specs.Requests.{MeansMaybe}
@@ -25,7 +25,7 @@ by_name end c bs (w ∷ ws) rest f e = (f.0, f.1, e)
 module _ (line : List ℕ) (short : length line ≤ longest_line) where
   -- a line that is short enough is refused for its words alone
   short_enough : line_refusal line ≡ words_refusal (length line + 1) (words line)
-  short_enough = ap (λ t. first_of (unless t (console_fault 46 (longest_line + 1))) (words_refusal (length line + 1) (words line))) (le-leb (length line) longest_line short)
+  short_enough = ap (λ t. first_some (unless t (console_fault 46 (longest_line + 1))) (words_refusal (length line + 1) (words line))) (le-leb (length line) longest_line short)
 
   by_words : (ws : List Word) (r : Result (Option Request) Fault) → words line ≡ ws → Answers (words_refusal (length line + 1) ws) (λ q. MeansMaybe q (asked ws)) r → Answers (line_refusal line) (λ q. MeansMaybe q (asked (words line))) r
   by_words ws r e a = rw (short_enough, e) a

@@ -2,7 +2,7 @@
 use Rattle.std.specs.Prelude.{ℕ, zero, suc, ◌+◌, cond, List, [], ◌∷◌, map, length, drop, ℤ, pos, Some, None, codes, Option, nat_le, slice_index_or}
 use Rattle.std.specs.Option.{unwrap_or}
 use Rattle.std.specs.Str.{bytes_eq}
-use Rattle.fault.specs.Refusals.{first_of, unless}
+use Rattle.fault.specs.Refusals.{first_some, unless}
 use Rattle.fault.specs.declared.Fault.{Fault}
 use Rattle.fault.specs.declared.Layer.TheVariants.{Console}
 use Rattle.console.specs.Words.{Word, number, phase, words}
@@ -53,7 +53,7 @@ no_number column None = Some (console_fault 43 column)
 abbrev pub numbers_refusal : ℕ → List Word → Option Fault
 numbers_refusal zero ws = None
 numbers_refusal (suc most) [] = None
-numbers_refusal (suc most) (w ∷ ws) = first_of (no_number w.column (number w.bytes)) (numbers_refusal most ws)
+numbers_refusal (suc most) (w ∷ ws) = first_some (no_number w.column (number w.bytes)) (numbers_refusal most ws)
 
 -- 44: a word too many
 abbrev pub left_over : List Word → Option Fault
@@ -62,16 +62,16 @@ left_over (w ∷ ws) = Some (console_fault 44 w.column)
 
 -- 44: fewer words than the least, or more than the most
 abbrev pub count_refusal : ℕ → ℕ → ℕ → List Word → Option Fault
-count_refusal least most end ws = first_of (unless (nat_le least (length ws)) (console_fault 44 end)) (left_over (drop most ws))
+count_refusal least most end ws = first_some (unless (nat_le least (length ws)) (console_fault 44 end)) (left_over (drop most ws))
 
 -- what is wrong with the words behind a command
 abbrev pub arguments_refusal : Verb → ℕ → List Word → Option Fault
 arguments_refusal Load end ws = count_refusal 0 0 end ws
-arguments_refusal Limit end ws = first_of (numbers_refusal 1 ws) (count_refusal 1 1 end ws)
-arguments_refusal Bar end ws = first_of (phase_refusal ws) (count_refusal 1 1 end ws)
-arguments_refusal Free end ws = first_of (phase_refusal ws) (count_refusal 1 1 end ws)
-arguments_refusal Step end ws = first_of (numbers_refusal 12 ws) (count_refusal 2 12 end ws)
-arguments_refusal Try end ws = first_of (numbers_refusal 12 ws) (count_refusal 2 12 end ws)
+arguments_refusal Limit end ws = first_some (numbers_refusal 1 ws) (count_refusal 1 1 end ws)
+arguments_refusal Bar end ws = first_some (phase_refusal ws) (count_refusal 1 1 end ws)
+arguments_refusal Free end ws = first_some (phase_refusal ws) (count_refusal 1 1 end ws)
+arguments_refusal Step end ws = first_some (numbers_refusal 12 ws) (count_refusal 2 12 end ws)
+arguments_refusal Try end ws = first_some (numbers_refusal 12 ws) (count_refusal 2 12 end ws)
 
 -- 41: the first word is no command
 abbrev pub command_refusal : Option Verb → ℕ → ℕ → List Word → Option Fault
@@ -84,7 +84,7 @@ words_refusal end (w ∷ ws) = command_refusal (verb w.bytes) w.column end ws
 
 -- the refusal that a line gets, if any; 46: it is too long
 abbrev pub line_refusal : List ℕ → Option Fault
-line_refusal line = first_of (unless (nat_le (length line) longest_line) (console_fault 46 (longest_line + 1))) (words_refusal (length line + 1) (words line))
+line_refusal line = first_some (unless (nat_le (length line) longest_line) (console_fault 46 (longest_line + 1))) (words_refusal (length line + 1) (words line))
 
 -- the numbers that words write
 abbrev pub values : List Word → List ℤ

@@ -1,7 +1,7 @@
 // What a line asks for.
 ghost use Rattle.std.specs.Prelude.{◌≡◌, ℕ, ◌+◌, ◌-◌, ◌≤◌, length, pos, slice_index_or};
 ghost use Rattle.std.specs.Str.{bytes_eq};
-ghost use Rattle.fault.specs.Refusals.{Answers, first_of};
+ghost use Rattle.fault.specs.Refusals.{Answers, first_some};
 ghost use Rattle.console.specs.Lines.{arguments_refusal, asked, asks, command_refusal, commanded, count_refusal, left_over, line_refusal, named_phase, numbers_refusal, values, verb as verb_of};
 ghost use Rattle.console.specs.Requests.{Means, MeansMaybe, NumbersRead, values_of};
 ghost use Rattle.console.specs.Tokens.{end_column, left};
@@ -101,7 +101,7 @@ fn numbers(words: &mut Words, most: usize) -> Result<Numbers, Fault>
 fn counted(words: &mut Words, least: usize, most: usize) -> Result<Numbers, Fault>
     requires order { least ≤ most }
     requires few { most ≤ 12 }
-    ensures { Answers (first_of (numbers_refusal most (left words.old)) (count_refusal least most (end_column words.old) (left words.old))) (λ n. (least ≤ n.count) × (values_of n ≡ values (left words.old))) result }
+    ensures { Answers (first_some (numbers_refusal most (left words.old)) (count_refusal least most (end_column words.old) (left words.old))) (λ n. (least ≤ n.count) × (values_of n ≡ values (left words.old))) result }
 {
     let found = numbers(words, most)?;
     if found.count < least {

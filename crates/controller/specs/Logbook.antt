@@ -1,6 +1,6 @@
 -- The logbook: what is known of a controller from its calls and what came of them, and which refusal it owes next.
 use Rattle.std.specs.Prelude.{ℕ, Bool, true, false, not, ◌&&◌, List, [], ◌∷◌, take, ℤ, Some, None, Option, ◌==◌, nat_le, nat_lt, slice_set}
-use Rattle.fault.specs.Refusals.{first_of, unless}
+use Rattle.fault.specs.Refusals.{first_some, unless}
 use Rattle.fault.specs.declared.Fault.{Fault}
 use Rattle.file.specs.File.{TableData, file_refusal, tables_of}
 use Rattle.period.specs.Inputs.{controller_fault, inputs_refusal}
@@ -95,14 +95,14 @@ phase_refusal p = unless (nat_lt p 3) (controller_fault 24 0)
 
 -- 27: the order bears another identity than the controller's own; 28: no order is open
 abbrev pub order_refusal : ℕ → Bool → ℕ → Option Fault
-order_refusal id pending o = first_of (unless (o == id) (controller_fault 27 0)) (unless pending (controller_fault 28 0))
+order_refusal id pending o = first_some (unless (o == id) (controller_fault 27 0)) (unless pending (controller_fault 28 0))
 
 -- the refusal that a controller of this identity and logbook owes to a call, if any
 abbrev pub refusal : ℕ → Logbook → Call → Option Fault
-refusal id b (Load f) = first_of (open_refusal b.pending) (file_refusal f.now)
-refusal id b (Limit n) = first_of (open_refusal b.pending) (limit_refusal n)
-refusal id b (Bar p) = first_of (open_refusal b.pending) (phase_refusal p)
-refusal id b (Free p) = first_of (open_refusal b.pending) (phase_refusal p)
-refusal id b (Plan i y) = first_of (open_refusal b.pending) (plan_refusal b.tables i y.now)
+refusal id b (Load f) = first_some (open_refusal b.pending) (file_refusal f.now)
+refusal id b (Limit n) = first_some (open_refusal b.pending) (limit_refusal n)
+refusal id b (Bar p) = first_some (open_refusal b.pending) (phase_refusal p)
+refusal id b (Free p) = first_some (open_refusal b.pending) (phase_refusal p)
+refusal id b (Plan i y) = first_some (open_refusal b.pending) (plan_refusal b.tables i y.now)
 refusal id b (Fire o) = order_refusal id b.pending o
 refusal id b (Withdraw o) = order_refusal id b.pending o

@@ -1,3 +1,4 @@
+-- That the dead band's sum never wraps over the costs that rows reach, which its laws rest on.
 use Rattle.std.specs.Prelude.{ℕ, ◌+◌, ◌-◌, ◌*◌, ◌%◌, ◌^◌, ◌<◌, ◌≤◌, ℤ, unsigned_abs, refl}
 use Rattle.std.proofs.Common.{mod-eq_of_lt, arith}
 use Rattle.std.proofs.Math.Nat.{mod-le}
@@ -6,10 +7,10 @@ use Rattle.legs.proofs.Bounds.{bounded}
 use Rattle.custom.specs.DeadBand.{dead_band}
 
 module _ (width : ℕ) where
-  pub adds : (c : ℕ) (d : ℤ) → Small d → (c + (unsigned_abs d - width)) % 2 ^ 32 ≤ c + 161218560
+  adds : (c : ℕ) (d : ℤ) → Small d → (c + (unsigned_abs d - width)) % 2 ^ 32 ≤ c + 161218560
   adds c d small = omega (arith, mod-le (c + (unsigned_abs d - width)) (2 ^ 32), small)
 
-  pub low : (k c : ℕ) → Reached (dead_band width) k c → c ≤ k * 161218560
+  low : (k c : ℕ) → Reached (dead_band width) k c → c ≤ k * 161218560
   low = bounded (dead_band width) (λ c. c) 161218560 refl adds
 
   -- the sum does not begin again

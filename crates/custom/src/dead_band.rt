@@ -1,5 +1,5 @@
 // A measure of a user's own.
-ghost use Rattle.custom.specs.DeadBand.{dead_band as dead_band_model, dead_band};
+ghost use Rattle.custom.specs.DeadBand.{dead_band as dead_band_model};
 ghost use Rattle.std.specs.Prelude.{◌+◌, ◌-◌, ◌%◌, ◌^◌, unsigned_abs, refl};
 ghost use Rattle.std.specs.Cmp.{nat_cmp_total};
 ghost use Rattle.legs.specs.Orders.{laws_where, number_le, same_number};
@@ -20,7 +20,7 @@ impl Measure for DeadBand {
 
     ghost meaning = { λ measure. dead_band_model measure.width };
 
-    ghost lawful = { λ measure. laws_where nat_cmp_total (dead_band measure.width) (λ a b _ _. refl) same_number (λ c d r small. number_le c ((c + (unsigned_abs d - measure.width)) % 2 ^ 32) (grows measure.width c d r small)) };
+    ghost lawful = { λ measure. laws_where nat_cmp_total (dead_band_model measure.width) (λ a b _ _. refl) same_number (λ c d r small. number_le c ((c + (unsigned_abs d - measure.width)) % 2 ^ 32) (grows measure.width c d r small)) };
 
     ghost room = { Prim.search rules };
 

@@ -1,5 +1,5 @@
 // The guesses that a search may start from, and the better of them.
-ghost use Rattle.std.specs.Prelude.{◌≡◌, ℕ, ◌<◌, ◌≤◌, length, take};
+ghost use Rattle.std.specs.Prelude.{◌≡◌, ◌<◌, length, take};
 ghost use Rattle.std.specs.Ordering.{is_lt};
 ghost use Rattle.legs.specs.Measure.{Reached};
 ghost use Rattle.decoder.specs.Sequences.{leg_of, cost as cost_of_sequence, cost_to};

@@ -1,5 +1,5 @@
 // The rows of V over the positions of a sequence.
-ghost use Rattle.std.specs.Prelude.{◌≡◌, ℕ, ◌+◌, ◌-◌, ◌*◌, ◌/◌, ◌%◌, ◌<◌, ◌≤◌, pos as pos', ◌-ℤ◌, ◌*ℤ◌, if◌then◌else◌, nat_lt, slice_index};
+ghost use Rattle.std.specs.Prelude.{◌≡◌, ◌+◌, ◌-◌, ◌*◌, ◌/◌, ◌%◌, ◌<◌, ◌≤◌, ◌-ℤ◌, ◌*ℤ◌, if◌then◌else◌, nat_lt, slice_index};
 ghost use Rattle.legs.specs.Measure.{Small};
 ghost use Rattle.decoder.specs.Limits.{Within};
 ghost use Rattle.decoder.specs.Sequences.{coupling, leg_of, left_over, difference as row_difference};

@@ -1,5 +1,5 @@
 // What a decoder is handed besides legs and measure.
-ghost use Rattle.std.specs.Prelude.{◌≡◌, ℕ, ◌≤◌, true, length, pos as pos', is_some, IfSome, slice_index_or};
+ghost use Rattle.std.specs.Prelude.{◌≡◌, ℕ, ◌≤◌, true, length, pos, is_some, IfSome, slice_index_or};
 ghost use Rattle.decoder.specs.Limits.{Within, most_coupling, most_target, every, within, in_limits};
 
 // One period's task. The lower triangle of V stands row after row, without gaps; past the horizon nothing is read.
@@ -17,14 +17,14 @@ pub struct Task {
     ghost triangle_long: { length triangle ≡ 120 },
     ghost target_long: { length target ≡ 15 },
     ghost unconstrained_long: { length unconstrained ≡ 15 },
-    ghost coupled: { ((i : ℕ) → Within most_coupling (slice_index_or triangle i (pos' 0))) },
-    ghost aimed: { ((i : ℕ) → Within most_target (slice_index_or target i (pos' 0))) },
+    ghost coupled: { ((i : ℕ) → Within most_coupling (slice_index_or triangle i (pos 0))) },
+    ghost aimed: { ((i : ℕ) → Within most_target (slice_index_or target i (pos 0))) },
 }
 
 // Whether each number lies from -most to most.
 fn all_within(xs: &[i32], most: u32) -> bool
     ensures is { result ≡ every (within most) xs.now }
-    ensures each { result ≡ true → (i : ℕ) → Within most (slice_index_or xs.now i (pos' 0)) }
+    ensures each { result ≡ true → (i : ℕ) → Within most (slice_index_or xs.now i (pos 0)) }
 {
     for x in xs {
         if x.unsigned_abs() > most {

@@ -3,14 +3,14 @@ use Rattle.std.specs.Prelude.{◌≡◌, ℕ, zero, suc, Bool, cond, Some, None,
 use Rattle.fault.specs.declared.Fault.{Fault}
 
 -- the first of two, where there is one, and else the second
-abbrev pub first_of : {X : Type 0} → Option X → Option X → Option X
-first_of (Some x) o = Some x
-first_of None o = o
+abbrev pub first_some : {X : Type 0} → Option X → Option X → Option X
+first_some (Some x) o = Some x
+first_some None o = o
 
 -- the lowest number below n that fails a test
 abbrev pub lowest_failing : (ℕ → Bool) → ℕ → Option ℕ
 lowest_failing test zero = None
-lowest_failing test (suc n) = first_of (lowest_failing test n) (cond (test n) None (Some n))
+lowest_failing test (suc n) = first_some (lowest_failing test n) (cond (test n) None (Some n))
 
 -- refused unless a condition is met
 abbrev pub unless : Bool → Fault → Option Fault

@@ -4,7 +4,7 @@ use Rattle.std.specs.List.{range_with_len}
 use Rattle.std.proofs.lemmas.List.{take_more_set, length-set, drop_more, drop_all}
 use Rattle.std.proofs.lemmas.List.FromFn.{map-range_with_len_more}
 use Rattle.fault.proofs.Answered.{passed_on}
-use Rattle.fault.specs.Refusals.{Answers, first_of}
+use Rattle.fault.specs.Refusals.{Answers, first_some}
 use Rattle.fault.specs.declared.Fault.{Fault}
 use Rattle.file.specs.Entered.{Entered}
 use Rattle.file.specs.File.{word, offset, entry_refusal, entries_refusal}
@@ -33,12 +33,12 @@ ahead_of_it n k x h c =
     ∙ ap (λ (y : Cell). y ∷ drop (k + 1) (cells n)) (ap (λ (i : ℕ). get_or (cells n) i x) (sym c.1) ∙ stands n x.table x.row x.column x c.0.0 c.0.1)
 
 -- what the rest of the file owes
-pub owed : (b : List ℕ) (n : ℕ) (es : List ℤ) (x : Cell) (k : ℕ) → k < count n → Reading b n es x k → entries_refusal (cells n) b 6 ≡ first_of (entry_refusal x (offset k) (word b (offset k))) (entries_refusal (drop (k + 1) (cells n)) b (offset (k + 1)))
+pub owed : (b : List ℕ) (n : ℕ) (es : List ℤ) (x : Cell) (k : ℕ) → k < count n → Reading b n es x k → entries_refusal (cells n) b 6 ≡ first_some (entry_refusal x (offset k) (word b (offset k))) (entries_refusal (drop (k + 1) (cells n)) b (offset (k + 1)))
 owed b n es x k h r =
     let e : offset k + 4 ≡ offset (k + 1) = omega arith in
     r.rest
     ∙ ap (λ (xs : List Cell). entries_refusal xs b (offset k)) (ahead_of_it n k x h (r.here h))
-    ∙ ap (λ (i : ℕ). first_of (entry_refusal x (offset k) (word b (offset k))) (entries_refusal (drop (k + 1) (cells n)) b i)) e
+    ∙ ap (λ (i : ℕ). first_some (entry_refusal x (offset k) (word b (offset k))) (entries_refusal (drop (k + 1) (cells n)) b i)) e
 
 pub reading_more : (b : List ℕ) (n : ℕ) (es : List ℤ) (x y : Cell) (k : ℕ) (z : ℤ) → k < count n → k < 741 → Reading b n es x k → entry_refusal x (offset k) (word b (offset k)) ≡ None → z ≡ word b (offset k) → (k + 1 < count n → CellOf n (k + 1) y) → Reading b n (set es k z) y (k + 1)
 reading_more b n es x y k z h l r o e f =
@@ -51,7 +51,7 @@ reading_more b n es x y k z h l r o e f =
             ∙ ap (λ (v : ℤ). map (λ i. word b (offset i)) (range_with_len 0 k) ++ (v ∷ [])) e
             ∙ sym (map-range_with_len_more (λ i. word b (offset i)) 0 k k (omega arith));
       };
-      rest = owed b n es x k h r ∙ ap (λ (p : Option Fault). first_of p (entries_refusal (drop (k + 1) (cells n)) b (offset (k + 1)))) o;
+      rest = owed b n es x k h r ∙ ap (λ (p : Option Fault). first_some p (entries_refusal (drop (k + 1) (cells n)) b (offset (k + 1)))) o;
       here = f;
     }
 

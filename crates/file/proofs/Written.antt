@@ -8,7 +8,7 @@ use Rattle.std.proofs.lemmas.Slice.{drop-append-drop}
 use Rattle.std.proofs.lemmas.Int.{ints}
 use Rattle.std.proofs.lemmas.Bool.{eqb-true, le-leb}
 use Rattle.std.proofs.lemmas.Bool.Decides.{nat_tests}
-use Rattle.fault.specs.Refusals.{first_of, unless}
+use Rattle.fault.specs.Refusals.{first_some, unless}
 use Rattle.fault.specs.declared.Fault.{Fault}
 use Rattle.file.specs.File.{TableData, Sound, entry, le4, word, offset, header, file_length, file_of, file_fault, header_refusal, entry_refusal, entries_refusal, file_refusal, tables_of}
 use Rattle.file.specs.Layout.{rows, Limited, limited, least, greatest, count, index, cell, CellOf, cells, on_diagonal, is_generator}
@@ -56,7 +56,7 @@ diagonal_true false z h = refl
 
 entry_kept : (x : Cell) (at : ℕ) (z : ℤ) → Limited x.table z → (on_diagonal x ≡ true → pos 1 ≤ℤ z) → entry_refusal x at z ≡ None
 entry_kept x at z l d =
-    ap (λ (p : Option Fault). first_of p (unless (not (on_diagonal x) || le_z (pos 1) z) (file_fault 7 at)))
+    ap (λ (p : Option Fault). first_some p (unless (not (on_diagonal x) || le_z (pos 1) z) (file_fault 7 at)))
     (clear (limited x.table z) (file_fault 6 at) (limited_true (least x.table) (greatest x.table) z l.0 l.1))
     ∙ clear (not (on_diagonal x) || le_z (pos 1) z) (file_fault 7 at) (diagonal_true (on_diagonal x) z d)
 
@@ -65,7 +65,7 @@ all_kept [] b at d h = refl
 all_kept (x ∷ xs) b at d h =
     let here : at + 4 * 0 ≡ at = omega arith in
     let first : entry_refusal x at (word b at) ≡ None = subst (λ (i : ℕ). entry_refusal x i (word b i) ≡ None) here (h 0 (omega arith)) in
-    ap (λ (p : Option Fault). first_of p (entries_refusal xs b (at + 4))) first
+    ap (λ (p : Option Fault). first_some p (entries_refusal xs b (at + 4))) first
     ∙ all_kept xs b (at + 4) d (λ i l.
     let there : at + 4 * suc i ≡ at + 4 + 4 * i = omega arith in
     subst (λ (j : ℕ). entry_refusal (get_or xs i d) j (word b j) ≡ None) there (h (suc i) (omega arith)))
@@ -117,7 +117,7 @@ module _ (d : TableData) (s : Sound d) where
       (λ g. subst (λ (z : ℤ). pos 1 ≤ℤ z) e (diagonal_kept x c.0.0 g)))
 
   pub accepted : file_refusal (file_of d) ≡ None
-  accepted = ap (λ (p : Option Fault). first_of p (entries_refusal (cells d.horizon) (file_of d) 6)) header_kept ∙ entries_kept
+  accepted = ap (λ (p : Option Fault). first_some p (entries_refusal (cells d.horizon) (file_of d) 6)) header_kept ∙ entries_kept
 
   pub read_back : tables_of (file_of d) ≡ d
   read_back =

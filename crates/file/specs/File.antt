@@ -3,7 +3,7 @@ use Rattle.std.specs.Prelude.{◌≡◌, ℕ, ◌+◌, ◌*◌, ◌/◌, ◌%◌
 use Rattle.std.specs.Int.{w32}
 use Rattle.std.proofs.Common.{to_z, of_z}
 use Rattle.std.specs.List.{range_with_len, flat_map}
-use Rattle.fault.specs.Refusals.{first_of, unless}
+use Rattle.fault.specs.Refusals.{first_some, unless}
 use Rattle.fault.specs.declared.Fault.{Fault}
 use Rattle.fault.specs.declared.Layer.TheVariants.{File}
 use Rattle.file.specs.Layout.{rows, columns, size, ahead, Limited, limited, count, index, cells, on_diagonal}
@@ -73,25 +73,25 @@ file_fault number place = record { layer = File; number = number; place = place 
 -- what is wrong with the header or the length
 abbrev pub header_refusal : List ℕ → Option Fault
 header_refusal b =
-    first_of (unless (nat_le 6 (length b)) (file_fault 1 (length b)))
-    (first_of (unless (marked b) (file_fault 2 0))
-    (first_of (unless (version_of b == version_number) (file_fault 3 3))
-    (first_of (unless (nat_le 1 (horizon_of b) && nat_le (horizon_of b) 5) (file_fault 4 5))
+    first_some (unless (nat_le 6 (length b)) (file_fault 1 (length b)))
+    (first_some (unless (marked b) (file_fault 2 0))
+    (first_some (unless (version_of b == version_number) (file_fault 3 3))
+    (first_some (unless (nat_le 1 (horizon_of b) && nat_le (horizon_of b) 5) (file_fault 4 5))
     (unless (length b == file_length (horizon_of b)) (file_fault 5 (length b))))))
 
 -- what is wrong with the entry z of the cell x, at its offset: outside its table's limits, or under 1 on the generator's diagonal
 abbrev pub entry_refusal : Cell → ℕ → ℤ → Option Fault
 entry_refusal x at z =
-    first_of (unless (limited x.table z) (file_fault 6 at)) (unless (not (on_diagonal x) || int_le (pos 1) z) (file_fault 7 at))
+    first_some (unless (limited x.table z) (file_fault 6 at)) (unless (not (on_diagonal x) || int_le (pos 1) z) (file_fault 7 at))
 
 -- the first thing wrong with the entries of some cells, by rising offset
 abbrev pub entries_refusal : List Cell → List ℕ → ℕ → Option Fault
 entries_refusal [] b at = None
-entries_refusal (x ∷ xs) b at = first_of (entry_refusal x at (word b at)) (entries_refusal xs b (at + 4))
+entries_refusal (x ∷ xs) b at = first_some (entry_refusal x at (word b at)) (entries_refusal xs b (at + 4))
 
 -- why a file is refused, if it is
 abbrev pub file_refusal : List ℕ → Option Fault
-file_refusal b = first_of (header_refusal b) (entries_refusal (cells (horizon_of b)) b (offset 0))
+file_refusal b = first_some (header_refusal b) (entries_refusal (cells (horizon_of b)) b (offset 0))
 
 -- a reading of one entry, and of one row by columns; nothing where the table has no such cell or row
 abbrev pub entry_reading : TableData → Table → ℕ → ℕ → Option ℤ

@@ -1,5 +1,5 @@
 // Which tables a file has, in which order, of which shape and within which limits.
-ghost use Rattle.std.specs.Prelude.{◌≡◌, ℕ, ◌+◌, ◌*◌, ◌<◌, ◌≤◌, length, ℤ, IfSome, MatchOption, ◌≢◌, slice_index_or};
+ghost use Rattle.std.specs.Prelude.{◌≡◌, ℕ, ◌+◌, ◌*◌, ◌<◌, ◌≤◌, length, IfSome, MatchOption, ◌≢◌, slice_index_or};
 ghost use Rattle.file.specs.File.{offset};
 ghost use Rattle.file.specs.Layout.{CellOf, InTable, columns as columns_of, count as count_of, following as following_of, above as above_of, ahead as ahead_of, cells as cells_of, greatest as greatest_entry, place as place_of, limited as is_limited, least as least_entry, on_diagonal, rows as rows_of, size as size_of};
 

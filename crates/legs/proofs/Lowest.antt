@@ -1,7 +1,7 @@
 -- The lowest number that fails a test.
 use Rattle.std.proofs.Common.{◌≡◌, ℕ, zero, suc, ◌+◌, ◌<◌, Bool, true, false, cond, Some, None, Option, refl, ap, ◌∙◌, inl, inr, add-one, arith}
 use Rattle.std.proofs.lemmas.Bool.{cases_eq}
-use Rattle.fault.specs.Refusals.{lowest_failing, first_of}
+use Rattle.fault.specs.Refusals.{lowest_failing, first_some}
 
 -- one number more that passes
 pub lowest_more : (test : ℕ → Bool) (n : ℕ) → lowest_failing test n ≡ None → test n ≡ true → lowest_failing test (n + 1) ≡ None
@@ -16,7 +16,7 @@ lowest_found test p (suc n) clear fails h =
       | inr ne ↦ (let below : p < n = omega arith in rw (lowest_found test p n clear fails below))
     ]
 
-none_parts : (o : Option ℕ) (b : Bool) (n : ℕ) → first_of o (cond b None (Some n)) ≡ None → (o ≡ None) × (b ≡ true)
+none_parts : (o : Option ℕ) (b : Bool) (n : ℕ) → first_some o (cond b None (Some n)) ≡ None → (o ≡ None) × (b ≡ true)
 none_parts (Some x) b n e = absurd (let z : ◌≡◌ {A = ℕ} 0 1 = cc in omega arith)
 none_parts None false n e = absurd (let z : ◌≡◌ {A = ℕ} 0 1 = cc in omega arith)
 none_parts None true n e = (refl, refl)

@@ -155,10 +155,10 @@ impl Leg for Listed {
     ghost model = { λ leg. listed_model (take leg.count leg.levels) (take leg.count leg.masks) leg.rest };
 
     ghost lawful = { λ leg.
-        let levels-fit : leg.count ≤ length leg.levels = omega arith in
-        let masks-fit : leg.count ≤ length leg.masks = omega arith in
-        let levels : length (take leg.count leg.levels) ≡ leg.count = length-take-le leg.count leg.levels levels-fit in
-        let masks : length (take leg.count leg.masks) ≡ leg.count = length-take-le leg.count leg.masks masks-fit in
+        let levels_fit : leg.count ≤ length leg.levels = omega arith in
+        let masks_fit : leg.count ≤ length leg.masks = omega arith in
+        let levels : length (take leg.count leg.levels) ≡ leg.count = length-take-le leg.count leg.levels levels_fit in
+        let masks : length (take leg.count leg.masks) ≡ leg.count = length-take-le leg.count leg.masks masks_fit in
         listed_lawful _ _ leg.rest (omega arith) (omega arith) (masks ∙ sym levels) (omega arith) (λ p h. leg.rising p (omega arith)) (λ p h. rw levels (leg.holding p (omega arith))) };
 
     fn positions(&self) -> u8 {

@@ -1,5 +1,5 @@
 // The interface of a measure.
-ghost use Rattle.std.specs.Prelude.{◌≡◌, ℕ};
+ghost use Rattle.std.specs.Prelude.{◌≡◌};
 ghost use Rattle.legs.specs.Measure.{MeasureModel, Lawful, Reached, Room, Small, at_most};
 
 use std::cmp::Ordering;

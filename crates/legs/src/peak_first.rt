@@ -1,5 +1,5 @@
 // The peak-first measure.
-ghost use Rattle.std.specs.Prelude.{◌≡◌, ℕ, ◌≤◌};
+ghost use Rattle.std.specs.Prelude.{ℕ, ◌≤◌};
 ghost use Rattle.legs.specs.Measure.{Reached};
 ghost use Rattle.legs.specs.Measures.{peak_first as peak_first_model};
 ghost use Rattle.legs.specs.Orders.{peak_first_lawful};

@@ -1,5 +1,5 @@
 // The squared measure.
-ghost use Rattle.std.specs.Prelude.{◌≡◌, ℕ, ◌^◌, ◌<◌, ◌≤◌};
+ghost use Rattle.std.specs.Prelude.{ℕ, ◌^◌, ◌<◌, ◌≤◌};
 ghost use Rattle.legs.specs.Measure.{Reached};
 ghost use Rattle.legs.specs.Measures.{squared as squared_model};
 ghost use Rattle.legs.specs.Orders.{squared_lawful};

@@ -2,7 +2,7 @@
 use Rattle.std.proofs.Common.{◌≡◌, ℕ, ◌+◌, ◌<◌, List, length, get_or, set, replicate, ℤ, pos, ◌∙◌, ⊎_elim, zero-le, arith, below_more}
 use Rattle.std.proofs.lemmas.List.{get_or_past, get_or-replicate, get_or-set_other, get_or-set_same, length-replicate, length-set}
 use Rattle.std.proofs.str.Laws.{order}
-use Rattle.period.specs.Sums.{AllWithin, Filled, Within}
+use Rattle.period.specs.Sums.{EachWithin, Filled, Within}
 
 zeros : (size k : ℕ) → get_or (replicate size (pos 0)) k (pos 0) ≡ pos 0
 zeros size k =
@@ -21,7 +21,7 @@ filled_more size n f xs z lt is p =
     }
 
 -- bounds on the values are bounds on the array
-pub filled_within : (size n m : ℕ) (f : ℕ → ℤ) (xs : List ℤ) → Filled size n f xs → ((k : ℕ) → k < n → Within m (f k)) → AllWithin m xs
+pub filled_within : (size n m : ℕ) (f : ℕ → ℤ) (xs : List ℤ) → Filled size n f xs → ((k : ℕ) → k < n → Within m (f k)) → EachWithin m xs
 filled_within size n m f xs p h k = ⊎_elim (λ l. rw (p.value k l) (h k l)) (λ l. rw (p.rest k l) zero-le) (order k n)
 
 pub filled_as : (size n : ℕ) (f g : ℕ → ℤ) (xs : List ℤ) → ((k : ℕ) → k < n → f k ≡ g k) → Filled size n f xs → Filled size n g xs

@@ -7,7 +7,7 @@ use Rattle.file.specs.declared.layout.Table.{Table}
 use Rattle.file.specs.declared.layout.Table.TheVariants.{Weight, Gamma, Upsilon, Unconstrained, Target, Generator}
 use Rattle.period.specs.Equations.{Given, error, error_term, period_theta, row_product, target, theta, unconstrained, weight_term}
 use Rattle.period.specs.Solved.{Bounded, Fair}
-use Rattle.period.specs.Sums.{AllWithin, Within, rounded, sum_to}
+use Rattle.period.specs.Sums.{EachWithin, Within, rounded, sum_to}
 use Rattle.period.proofs.Bounds.{rounded_products_within, within_difference, within_product}
 
 -- the widest that a table's limits are
@@ -43,11 +43,11 @@ module _ (d : TableData) (s : Sound d) where
   entry_within : (t : Table) (r c : ℕ) → r < rows t d.horizon → c < columns t d.horizon r → Within (width t) (entry d t r c)
   entry_within t r c h k = limited_within t (entry d t r c) (s.limited t r c h k)
 
-  pub free_within : (i : List ℤ) (r : ℕ) → r < 2 * d.horizon → AllWithin 8192 i → Within 32768 (rounded (sum_to 2 (λ c. entry d Gamma r c *ℤ get_or i c (pos 0))))
+  pub free_within : (i : List ℤ) (r : ℕ) → r < 2 * d.horizon → EachWithin 8192 i → Within 32768 (rounded (sum_to 2 (λ c. entry d Gamma r c *ℤ get_or i c (pos 0))))
   free_within i r h small =
       rounded_products_within (entry d Gamma r) (λ c. get_or i c (pos 0)) 2 2 8192 8192 32768 (lit≤ tt) (lit≤ tt) (λ c k. entry_within Gamma r c h k) (λ c k. small c)
 
-  pub error_within : (i y : List ℤ) (r : ℕ) → r < 2 * d.horizon → AllWithin 8192 i → AllWithin 8192 y → Within 40960 (error d i y r)
+  pub error_within : (i y : List ℤ) (r : ℕ) → r < 2 * d.horizon → EachWithin 8192 i → EachWithin 8192 y → Within 40960 (error d i y r)
   unfolding error
   error_within i y r h si sy = within_difference _ (get_or y r (pos 0)) 32768 8192 (free_within i r h si) (sy r)
 
@@ -56,14 +56,14 @@ module _ (d : TableData) (s : Sound d) where
   error_term_within e j h small =
       rounded_products_within (λ r. entry d Upsilon r j) e (2 * d.horizon) 10 4096 40960 409600 (omega (arith, s.few)) (lit≤ tt) (λ r k. entry_within Upsilon r j k h) small
 
-  pub weight_product_within : (u : List ℤ) (j : ℕ) → AllWithin 2 u → Within 131072 (entry d Weight 0 0 *ℤ get_or u j (pos 0))
+  pub weight_product_within : (u : List ℤ) (j : ℕ) → EachWithin 2 u → Within 131072 (entry d Weight 0 0 *ℤ get_or u j (pos 0))
   weight_product_within u j small = within_product (entry d Weight 0 0) (get_or u j (pos 0)) 65536 2 (entry_within Weight 0 0 (omega arith) (omega arith)) (small j)
 
-  pub weight_term_within : (u : List ℤ) (j : ℕ) → AllWithin 2 u → Within 131072 (weight_term d u j)
+  pub weight_term_within : (u : List ℤ) (j : ℕ) → EachWithin 2 u → Within 131072 (weight_term d u j)
   unfolding weight_term
   weight_term_within u j small = where_chosen (ltb j 3) _ (entry d Weight 0 0 *ℤ get_or u j (pos 0)) (weight_product_within u j small)
 
-  pub theta_within : (e : ℕ → ℤ) (u : List ℤ) (j : ℕ) → j < 3 * d.horizon → ((r : ℕ) → r < 2 * d.horizon → Within 40960 (e r)) → AllWithin 2 u → Within 540672 (theta d e u j)
+  pub theta_within : (e : ℕ → ℤ) (u : List ℤ) (j : ℕ) → j < 3 * d.horizon → ((r : ℕ) → r < 2 * d.horizon → Within 40960 (e r)) → EachWithin 2 u → Within 540672 (theta d e u j)
   theta_within e u j h se su = within_difference (error_term d e j) (weight_term d u j) 409600 131072 (error_term_within e j h se) (weight_term_within u j su)
 
   pub unconstrained_within : (th : ℕ → ℤ) (j : ℕ) → j < 3 * d.horizon → ((k : ℕ) → k < 3 * d.horizon → Within 540672 (th k)) → Within 2076180480 (row_product d Unconstrained th j)

@@ -4,9 +4,9 @@ use Rattle.std.proofs.str.Laws.{order}
 use Rattle.std.proofs.lemmas.List.{get_or-append-add, get_or_append_left, get_or_past, length-append}
 use Rattle.std.proofs.lemmas.Int.{ints, to_z-of_z}
 use Rattle.std.proofs.lemmas.Bool.{eq-eqb, leb-true}
-use Rattle.fault.specs.Refusals.{first_of, lowest_failing}
+use Rattle.fault.specs.Refusals.{first_some, lowest_failing}
 use Rattle.period.specs.Inputs.{allowed_at, first_outside, inputs_refusal}
-use Rattle.period.specs.Sums.{AllWithin, Within}
+use Rattle.period.specs.Sums.{EachWithin, Within}
 use Rattle.period.proofs.Bounds.{within_as}
 
 pub none_fails : (test : ℕ → Bool) (n : ℕ) → ((k : ℕ) → k < n → test k ≡ true) → lowest_failing test n ≡ None
@@ -19,7 +19,7 @@ fails_first test (suc n) i lt h f =
     ⊎_elim (λ l. rw (fails_first test n i l h f)) (λ l. let e : i ≡ n = omega arith in let q : test n ≡ false = ap test (sym e) ∙ f in rw (none_fails test n (λ k m. h k (omega arith)), q) (ap (λ j. Some j) (sym e))) (order i n)
 
 -- three numbers of at most 2 in size
-pub three_small : (a b c : ℤ) → Within 2 a → Within 2 b → Within 2 c → AllWithin 2 (a ∷ (b ∷ (c ∷ [])))
+pub three_small : (a b c : ℤ) → Within 2 a → Within 2 b → Within 2 c → EachWithin 2 (a ∷ (b ∷ (c ∷ [])))
 three_small a b c ha hb hc zero = ha
 three_small a b c ha hb hc (suc zero) = hb
 three_small a b c ha hb hc (suc (suc zero)) = hc
@@ -33,7 +33,7 @@ level_is r z e low high =
     (is, within_as 2 _ z is (omega (arith, ints)))
 
 -- no place fails
-neither : (o : Option ℕ) (b : Bool) (n : ℕ) → first_of o (cond b None (Some n)) ≡ None → (o ≡ None) × (b ≡ true)
+neither : (o : Option ℕ) (b : Bool) (n : ℕ) → first_some o (cond b None (Some n)) ≡ None → (o ≡ None) × (b ≡ true)
 neither None true n e = (refl, refl)
 neither None false n e = let z : ◌≡◌ {A = ℕ} 0 1 = cc (e) in absurd (omega arith)
 neither (Some x) b n e = let z : ◌≡◌ {A = ℕ} 0 1 = cc (e) in absurd (omega arith)
@@ -45,18 +45,18 @@ all_pass test (suc n) e k lt =
     ⊎_elim (all_pass test n b.0 k) (λ l. let q : k ≡ n = omega arith in ap test q ∙ b.1) (order k n)
 
 -- what is past the end is 0
-within_list : (m : ℕ) (xs : List ℤ) → ((k : ℕ) → k < length xs → Within m (get_or xs k (pos 0))) → AllWithin m xs
+within_list : (m : ℕ) (xs : List ℤ) → ((k : ℕ) → k < length xs → Within m (get_or xs k (pos 0))) → EachWithin m xs
 within_list m xs h k = ⊎_elim (h k) (λ l. rw (get_or_past xs k (pos 0) l) zero-le) (order k (length xs))
 
 module _ (i y : List ℤ) (none : first_outside i y ≡ None) where
   at : (k : ℕ) → k < length (i ++ y) → Within 8192 (get_or (i ++ y) k (pos 0))
   at k h = leb-true (nat_abs (get_or (i ++ y) k (pos 0))) 8192 (all_pass (allowed_at i y) (length (i ++ y)) none k h)
 
-  pub currents_small : AllWithin 8192 i
+  pub currents_small : EachWithin 8192 i
   currents_small =
       within_list 8192 i (λ k h. let e = get_or_append_left i y (pos 0) k h in within_as 8192 _ _ (sym e) (at k (omega (arith, length-append i y))))
 
-  pub references_small : AllWithin 8192 y
+  pub references_small : EachWithin 8192 y
   references_small =
       within_list 8192 y (λ k h. let e = get_or-append-add i y k (pos 0) in within_as 8192 _ _ (sym e) (at (length i + k) (omega (arith, length-append i y))))
 

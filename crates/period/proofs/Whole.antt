@@ -5,7 +5,7 @@ use Rattle.file.specs.declared.layout.Table.{Table}
 use Rattle.file.specs.declared.layout.Table.TheVariants.{Upsilon, Unconstrained, Target}
 use Rattle.period.specs.Equations.{Given, error, error_term, period_theta, row_product, target, theta, unconstrained, weight_term}
 use Rattle.period.specs.Solved.{Fair, Solved}
-use Rattle.period.specs.Sums.{AllWithin, Filled, rounded}
+use Rattle.period.specs.Sums.{EachWithin, Filled, rounded}
 use Rattle.period.specs.declared.Period.{Period}
 use Rattle.period.proofs.Bounds.{sum_to_same}
 use Rattle.period.proofs.Fill.{filled_as, filled_within}
@@ -24,7 +24,7 @@ row_product_same d t e f j h =
     ap rounded (sum_to_same (λ k. entry d t j k *ℤ e k) (λ k. entry d t j k *ℤ f k) (3 * d.horizon) (λ k l. ap (λ z. entry d t j k *ℤ z) (h k l)))
 
 module _ (d : TableData) (s : Sound d) (g : Given) (fair : Fair d.horizon g) (es : List ℤ) (errors : Filled 10 (2 * d.horizon) (error d g.currents g.references) es) where
-  pub errors_small : AllWithin 40960 es
+  pub errors_small : EachWithin 40960 es
   errors_small = filled_within 10 (2 * d.horizon) 40960 (error d g.currents g.references) es errors (given_error_within d s g fair)
 
   module _ (ts : List ℤ) (thetas : Filled 15 (3 * d.horizon) (theta d (λ r. get_or es r (pos 0)) g.levels) ts) where
@@ -32,7 +32,7 @@ module _ (d : TableData) (s : Sound d) (g : Given) (fair : Fair d.horizon g) (es
     unfolding period_theta
     thetas_are = filled_as 15 (3 * d.horizon) _ _ ts (λ j h. theta_same d (λ r. get_or es r (pos 0)) (error d g.currents g.references) g.levels j errors.value) thetas
 
-    pub thetas_small : AllWithin 540672 ts
+    pub thetas_small : EachWithin 540672 ts
     thetas_small = filled_within 15 (3 * d.horizon) 540672 (period_theta d g) ts thetas_are (given_theta_within d s g fair)
 
     products_are : (t : Table) (zs : List ℤ) → Filled 15 (3 * d.horizon) (row_product d t (λ k. get_or ts k (pos 0))) zs → Filled 15 (3 * d.horizon) (row_product d t (period_theta d g)) zs

@@ -1,6 +1,6 @@
 -- What a controller may be handed for one period.
 use Rattle.std.specs.Prelude.{ℕ, ◌*◌, Bool, List, [], ◌∷◌, ◌++◌, length, ℤ, pos, Option, ◌==◌, nat_le, slice_index, slice_index_or, unsigned_abs}
-use Rattle.fault.specs.Refusals.{first_of, lowest_failing, refused_at, unless}
+use Rattle.fault.specs.Refusals.{first_some, lowest_failing, refused_at, unless}
 use Rattle.fault.specs.declared.Fault.{Fault}
 use Rattle.fault.specs.declared.Layer.TheVariants.{Controller}
 use Rattle.legs.specs.Model.{LegModel}
@@ -23,7 +23,7 @@ controller_fault number place = record { layer = Controller; number = number; pl
 -- 26: not two references for each of n stages, with how many there are; 25: a value that is not allowed, with its place
 abbrev pub inputs_refusal : ℕ → List ℤ → List ℤ → Option Fault
 inputs_refusal n currents references =
-    first_of (unless (length references == 2 * n) (controller_fault 26 (length references))) (refused_at (first_outside currents references) (controller_fault 25))
+    first_some (unless (length references == 2 * n) (controller_fault 26 (length references))) (refused_at (first_outside currents references) (controller_fault 25))
 
 -- the levels of the three applied positions
 abbrev pub levels_of : (ℕ → LegModel) → List ℕ → List ℤ

@@ -24,8 +24,8 @@ abbrev pub Within : ℕ → ℤ → Type 0
 Within m z = unsigned_abs z ≤ m
 
 -- a list of such numbers
-abbrev pub AllWithin : ℕ → List ℤ → Type 0
-AllWithin m xs = (k : ℕ) → Within m (slice_index_or xs k (pos 0))
+abbrev pub EachWithin : ℕ → List ℤ → Type 0
+EachWithin m xs = (k : ℕ) → Within m (slice_index_or xs k (pos 0))
 
 -- a list of so many numbers: the first n values of f, and 0 past them
 pub record Filled (size n : ℕ) (f : ℕ → ℤ) (xs : List ℤ) : Type 0 where

@@ -2,7 +2,7 @@
 ghost use Rattle.std.specs.Prelude.{◌≡◌, ◌*◌, length, OnOk};
 ghost use Rattle.fault.specs.Refusals.{Answers};
 ghost use Rattle.period.specs.Inputs.{controller_fault, first_outside, inputs_refusal, levels_of};
-ghost use Rattle.period.specs.Sums.{AllWithin};
+ghost use Rattle.period.specs.Sums.{EachWithin};
 
 use fault::{Fault, Layer};
 use file::horizon::Horizon;
@@ -36,7 +36,7 @@ fn first_outside_range(currents: &[i32; 2], references: &[i32]) -> Option<usize>
 // The levels of the applied positions.
 pub(crate) fn levels<L: Phases>(legs: &L, applied: &[u8; 3]) -> [i8; 3]
     ensures value { result ≡ levels_of (L.Phases.models legs.now) applied.now }
-    ensures bound { AllWithin 2 result }
+    ensures bound { EachWithin 2 result }
 {
     [
         legs.level(0, applied[0]),
@@ -49,8 +49,8 @@ pub(crate) fn levels<L: Phases>(legs: &L, applied: &[u8; 3]) -> [i8; 3]
 pub(crate) fn check(horizon: Horizon, currents: &[i32; 2], references: &[i32]) -> Result<(), Fault>
     ensures answers { Answers (inputs_refusal horizon.stages currents.now references.now) (λ _. Unit {0}) result }
     ensures staged { OnOk result (length references.now ≡ 2 * horizon.stages) }
-    ensures currents { OnOk result (AllWithin 8192 currents.now) }
-    ensures references { OnOk result (AllWithin 8192 references.now) }
+    ensures currents { OnOk result (EachWithin 8192 currents.now) }
+    ensures references { OnOk result (EachWithin 8192 references.now) }
 {
     if references.len() != 2 * horizon.stages() {
         return Err(refused(26, references.len()));

@@ -6,7 +6,7 @@ use lib.Ieee.Fits.{down_pos}
 use Rattle.std.specs.Float.{float_is_finite, floor, float_with_sign}
 use Rattle.std.specs.Int.{int_div_euclid}
 use Rattle.std.proofs.lemmas.Int.{ints}
-use Rattle.fault.specs.Refusals.{Answers, first_of, unless}
+use Rattle.fault.specs.Refusals.{Answers, first_some, unless}
 use Rattle.fault.specs.declared.Fault.{Fault}
 use Rattle.file.specs.Layout.{limited}
 use Rattle.file.specs.declared.layout.Table.{Table}
@@ -66,11 +66,11 @@ counts_from x y z r h e q =
     one_nearest (twice_counts x) _ r (nearest_is_nearest (twice_counts x) (positive x)) (nearest_from_below (twice_counts x) z r (halves y z r e q) h.low h.high)
 
 -- the three exits
-unmet : {V : Type 0} (b : Bool) (f g : Fault) (o : Option Fault) (P : V → Type 0) → b ≡ false → g ≡ f → Answers (first_of (unless b f) o) P (Err g)
+unmet : {V : Type 0} (b : Bool) (f g : Fault) (o : Option Fault) (P : V → Type 0) → b ≡ false → g ≡ f → Answers (first_some (unless b f) o) P (Err g)
 unmet false f g o P e h = h
 unmet true f g o P e h = let z : ◌≡◌ {A = ℕ} 0 1 = cc (e) in absurd (omega arith)
 
-met : {V : Type 0} (b : Bool) (f : Fault) (o : Option Fault) (P : V → Type 0) (r : Result V Fault) → b ≡ true → Answers o P r → Answers (first_of (unless b f) o) P r
+met : {V : Type 0} (b : Bool) (f : Fault) (o : Option Fault) (P : V → Type 0) (r : Result V Fault) → b ≡ true → Answers o P r → Answers (first_some (unless b f) o) P r
 met true f o P r e h = h
 met false f o P r e h = let z : ◌≡◌ {A = ℕ} 0 1 = cc (e) in absurd (omega arith)
 

@@ -1,7 +1,7 @@
 -- What quantising an entry for a table comes to.
 use Rattle.std.specs.Prelude.{◌≡◌, ℕ, Bool, true, ℤ, Option}
 use Rattle.std.specs.Float.{float_is_finite}
-use Rattle.fault.specs.Refusals.{first_of, unless}
+use Rattle.fault.specs.Refusals.{first_some, unless}
 use Rattle.fault.specs.declared.Fault.{Fault}
 use Rattle.fault.specs.declared.Layer.TheVariants.{Quantiser}
 use Rattle.file.specs.Layout.{limited}
@@ -34,4 +34,4 @@ refusal n = record { layer = Quantiser; number = n; place = 0 }
 
 -- 31: an infinity or no number at all; 32: counts that the table does not allow
 abbrev pub quantise_refusal : Entry → Table → Option Fault
-quantise_refusal e t = first_of (unless (is_finite e) (refusal 31)) (unless (limited t (counts e)) (refusal 32))
+quantise_refusal e t = first_some (unless (is_finite e) (refusal 31)) (unless (limited t (counts e)) (refusal 32))

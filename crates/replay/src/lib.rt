@@ -1,7 +1,7 @@
 // Recordings, replayed: a list of calls on a controller from its first day.
 #![tactic(auto)]
 
-ghost use Rattle.std.specs.Prelude.{◌≡◌, true, false, [], ◌∷◌, IfOk};
+ghost use Rattle.std.specs.Prelude.{◌≡◌, [], ◌∷◌, IfOk};
 ghost use Rattle.controller.specs.Law.{Run, Stands};
 ghost use Rattle.controller.specs.Problems.{built};
 ghost use Rattle.controller.specs.View.{Does, book_of, reply, setup_of};

@@ -1,8 +1,8 @@
 // The calls on a controller, and its readings.
-ghost use Rattle.std.specs.Prelude.{◌≡◌, ℕ, ◌<◌, List, [], ◌∷◌, set, slice_set};
+ghost use Rattle.std.specs.Prelude.{◌≡◌, ◌<◌, [], ◌∷◌, slice_set};
 ghost use Rattle.std.specs.Option.{option_map};
 ghost use Rattle.controller.specs.Logbook.{first_day, first_stage, order_refusal};
-ghost use Rattle.controller.specs.View.{Bears, Does, HandsBack, Plans, bars_of, book_of, entries_in, entry_at, plan_entries, plan_reply, reading_of, reply, reply_back, settings_of, setup_of};
+ghost use Rattle.controller.specs.View.{Bears, Does, HandsBack, Plans, bars_of, book_of, entry_at, plan_entries, plan_reply, reading_of, reply, reply_back, settings_of, setup_of};
 ghost use Rattle.controller.specs.declared.calls.Call.TheVariants.{Load, Limit, Bar, Free, Plan as PlanCall, Fire, Withdraw};
 
 use super::{Controller, Settings};

@@ -4,7 +4,7 @@ ghost use Rattle.std.specs.Option.{option_map};
 ghost use Rattle.fault.specs.Refusals.{Answers};
 ghost use Rattle.file.specs.Tables.{data_of};
 ghost use Rattle.decoder.specs.Limits.{Within, most_coupling};
-ghost use Rattle.period.specs.Sums.{AllWithin};
+ghost use Rattle.period.specs.Sums.{EachWithin};
 ghost use Rattle.controller.specs.Law.{PlanKept, Stands};
 ghost use Rattle.controller.specs.Logbook.{plan_refusal};
 ghost use Rattle.controller.specs.Problems.{generator, padded};
@@ -56,7 +56,7 @@ fn entries_of(remembered: &Option<Sequence>) -> Option<[u8; 15]>
 
 // The task of one period.
 fn task(tables: &Tables, applied: &[u8; 3], remembered: &Option<Sequence>, period: &Period) -> Task
-    requires small { AllWithin 129761280 period.now.target }
+    requires small { EachWithin 129761280 period.now.target }
     requires target { length period.now.target ≡ 15 }
     requires unconstrained { length period.now.unconstrained ≡ 15 }
     ensures stages { result.stages ≡ (data_of tables.now).horizon }

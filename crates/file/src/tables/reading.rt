@@ -1,7 +1,7 @@
 // From the bytes of a file to its tables.
-ghost use Rattle.std.specs.Prelude.{◌≡◌, ℕ, ◌+◌, ◌*◌, ◌<◌, ◌≤◌, length, None};
+ghost use Rattle.std.specs.Prelude.{◌≡◌, ◌+◌, ◌*◌, ◌<◌, ◌≤◌, length, None};
 ghost use Rattle.fault.specs.Refusals.{Answers};
-ghost use Rattle.file.specs.File.{entries_refusal, entry_refusal, file_of, file_refusal, header_refusal, horizon_of, offset, tables_of, word};
+ghost use Rattle.file.specs.File.{entries_refusal, entry_refusal, file_of, file_refusal, header_refusal, horizon_of, tables_of, word};
 ghost use Rattle.file.specs.Layout.{cells, count as count_of};
 ghost use Rattle.file.specs.Entered.{Entered};
 ghost use Rattle.file.specs.Tables.{data_of};

@@ -1,5 +1,5 @@
 // Readings of a plant's tables.
-ghost use Rattle.std.specs.Prelude.{◌≡◌, ℕ, ◌+◌, ◌*◌, ◌<◌, ◌≤◌, List, [], length, ℤ, pos, ◌≤ℤ◌, IfSome, slice_index_or};
+ghost use Rattle.std.specs.Prelude.{◌≡◌, ℕ, ◌<◌, length, pos, IfSome, slice_index_or};
 ghost use Rattle.file.specs.File.{entry, entry_reading, row_reading, table_reading};
 ghost use Rattle.file.specs.Layout.{InTable, Limited, rows as rows_of};
 ghost use Rattle.file.specs.Tables.{data_of};

@@ -1,5 +1,5 @@
 // From tables to the bytes of their file.
-ghost use Rattle.std.specs.Prelude.{◌≡◌, ℕ, ◌+◌, ◌*◌, ◌<◌, ◌≤◌, ◌++◌, length, take, drop, OnErr};
+ghost use Rattle.std.specs.Prelude.{◌≡◌, ◌+◌, ◌*◌, ◌<◌, ◌≤◌, ◌++◌, length, take, drop, OnErr};
 ghost use Rattle.fault.specs.Refusals.{Answers};
 ghost use Rattle.file.specs.File.{file_length, header, le4};
 ghost use Rattle.file.specs.Tables.{Written, data_of, write_refusal};
