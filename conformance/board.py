@@ -140,7 +140,7 @@ class NpcLeg:
 
 
 class BarredLeg:
-    """A leg under a bar. While the bar is set only holding is permitted."""
+    """A leg under a bar: set, it leaves nothing but holding."""
 
     def __init__(self, below, barred=False):
         self.below = below

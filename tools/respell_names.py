@@ -17,6 +17,8 @@ STOP = r"\s(){}\[\];,.«»⌜⌝|@\"`"
 # Names of a fact or a theorem, which are spelled like a type.
 FACTS = {
     "All-within": "EachWithin",
+    "Answers-line": "AnswersLine",
+    "Answers_line": "AnswersLine",
     "Counts-are-meant": "CountsAreMeant",
     "Rounded-down": "RoundedDown",
     "Rounding-rows": "RoundingRows",

@@ -80,6 +80,6 @@ pub record Prints (file line : List ℕ) (before : Logbook) (out : List ℕ) (n 
   pub turn : Turn (line_refusal line) (asked (words line)) file before text after
 
 -- 45: a buffer that is too short is refused, and nothing is touched; otherwise the line is answered
-abbrev pub Answers_line : List ℕ → List ℕ → Logbook → List ℕ → Result ℕ Fault → List ℕ → Logbook → Type 0
-Answers_line file line before out (Ok n) out' after = Prints file line before out n out' after
-Answers_line file line before out (Err f) out' after = (length out < room) × (f ≡ console_fault 45 0) × (out' ≡ out) × (after ≡ before)
+abbrev pub AnswersLine : List ℕ → List ℕ → Logbook → List ℕ → Result ℕ Fault → List ℕ → Logbook → Type 0
+AnswersLine file line before out (Ok n) out' after = Prints file line before out n out' after
+AnswersLine file line before out (Err f) out' after = (length out < room) × (f ≡ console_fault 45 0) × (out' ≡ out) × (after ≡ before)

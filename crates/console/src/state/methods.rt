@@ -2,7 +2,7 @@
 ghost use Rattle.std.specs.Prelude.{◌≡◌, [], ◌∷◌, take};
 ghost use Rattle.controller.specs.Logbook.{first_day};
 ghost use Rattle.controller.specs.View.{book_of};
-ghost use Rattle.console.specs.Turns.{Answers_line};
+ghost use Rattle.console.specs.Turns.{AnswersLine};
 
 use super::Console;
 use crate::calls::respond;
@@ -42,7 +42,7 @@ impl<'a> Console<'a> {
 
     // Answers a line: the answer is written to the front of `out`, and its length is given.
     pub fn answer(&mut self, line: &[u8], out: &mut [u8]) -> Result<usize, Fault>
-        ensures answers { Answers_line self.old.file.now line.now (book_of self.old.controller) out.old result out.new (book_of self.new.controller) }
+        ensures answers { AnswersLine self.old.file.now line.now (book_of self.old.controller) out.old result out.new (book_of self.new.controller) }
         ensures file { self.new.file ≡ self.old.file }
     {
         if out.len() < ROOM {
