@@ -1,77 +1,134 @@
 -- Reading words and numbers, byte by byte.
-use Rattle.std.proofs.Common.{◌≡◌, ℕ, zero, suc, ◌+◌, ◌-◌, ◌*◌, ◌^◌, ◌<◌, ◌≤◌, Bool, true, false, cond, not, ◌&&◌, ◌⊎◌, List, [], ◌∷◌, length, get_or, take, drop, pos, neg_ℤ, None, sym, refl, ap, ◌∙◌, subst, inl, inr, ⊎_elim, pow-suc, add-one, arith, eq-eqb, ne_eqb, le-leb}
+use Rattle.std.proofs.Common.{◌≡◌, ℕ, suc, ◌+◌, ◌-◌, ◌^◌, ◌<◌, ◌≤◌, Bool, true, false, cond, not, ◌⊎◌, List, [], ◌∷◌, length, take, drop, Some, None, sym, refl, ap, ◌∙◌, subst, inl, inr, ⊎_elim, arith, lt-ltb, drop-drop, Option}
 use native.Mathlib.Nat.{pow-le-pow_right}
-use Rattle.std.proofs.lemmas.Bool.{cases_lt}
-use borrow.Author.Tests.{lt-leb}
-use Rattle.std.proofs.lemmas.List.{at_drop_more, at_drop_all}
-use Rattle.std.proofs.lemmas.Slice.{first_rest}
-use Rattle.std.specs.Option.{option_map}
+use Rattle.std.proofs.lemmas.Bool.{cases_lt, le-ltb}
+use Rattle.std.proofs.lemmas.List.{at_drop_more, at_drop_all, length-drop, take_all}
+use Rattle.std.proofs.lemmas.List.Quantifiers.{position-Some}
+use Rattle.std.proofs.lemmas.List.Folds.{length-prefix_len}
+use Rattle.std.proofs.lemmas.Option.{none-some}
+use Rattle.std.specs.List.{position, position_or_len, prefix_len, take_while}
 use Rattle.console.specs.declared.words.Token.{Token}
 use Rattle.console.specs.declared.words.Token.TheVariants.{Number, Name, End}
 use Rattle.console.specs.Tokens.{First}
-use Rattle.console.specs.Words.{Word, digits_after, goes_on, magnitude, number, put_before, words_from}
+use Rattle.console.specs.Words.{Word, goes_on, is_space, put_before, words_from}
 
 module _ {X : Type 0} where
-  tested : (p q : Bool) (x y : X) → p ≡ true → q ≡ true → cond (p && q) x y ≡ x
-  tested true true x y a b = refl
-  tested true false x y a b = let z : ◌≡◌ {A = ℕ} 0 1 = cc (b) in absurd (omega arith)
-  tested false q x y a b = let z : ◌≡◌ {A = ℕ} 0 1 = cc (a) in absurd (omega arith)
-
-  failed : (p q : Bool) (x y : X) → (p ≡ false) ⊎ (q ≡ false) → cond (p && q) x y ≡ y
-  failed true true x y (inl a) = let z : ◌≡◌ {A = ℕ} 0 1 = cc (a) in absurd (omega arith)
-  failed true true x y (inr a) = let z : ◌≡◌ {A = ℕ} 0 1 = cc (a) in absurd (omega arith)
-  failed true false x y e = refl
-  failed false q x y e = refl
-
   chosen : (p : Bool) (x y : X) → p ≡ true → cond p x y ≡ x
   chosen p x y e = ap (λ t. cond t x y) e
 
   other : (p : Bool) (x y : X) → p ≡ false → cond p x y ≡ y
   other p x y e = ap (λ t. cond t x y) e
 
--- a space is no part of any word
-pub space_more : (line : List ℕ) (i : ℕ) → i < length line → get_or line i 0 ≡ 32 → words_from (i + 1 + 1) (drop (i + 1) line) ≡ words_from (i + 1) (drop i line)
-space_more line i lt e = sym (at_drop_more (words_from (i + 1)) line i 0 lt ∙ chosen _ _ _ (eq-eqb (get_or line i 0) 32 e))
+either : (t : Bool) → (t ≡ true) ⊎ (t ≡ false)
+either true = inl refl
+either false = inr refl
 
--- whether a word goes on at i
-goes_on_at : (line : List ℕ) (i : ℕ) → i < length line → (get_or line i 0 ≡ 32 → ⊥) → goes_on (drop i line) ≡ true
-goes_on_at line i lt ne = at_drop_more goes_on line i 0 lt ∙ ap not (ne_eqb (get_or line i 0) 32 ne)
+-- how many spaces stand in front
+abbrev spaces : List ℕ → ℕ
+spaces xs = position_or_len (λ b. not (is_space b)) xs
 
--- a word ends at i: there the line ends, or a space stands
-ended : (line : List ℕ) (i : ℕ) → (i < length line → get_or line i 0 ≡ 32) → goes_on (drop i line) ≡ false
-ended line i stops =
-    ⊎_elim (λ lt. at_drop_more goes_on line i 0 lt ∙ ap not (eq-eqb (get_or line i 0) 32 (stops lt))) (λ le. at_drop_all goes_on line i le) (cases_lt i (length line))
+-- how long the word in front is
+abbrev first_len : List ℕ → ℕ
+first_len xs = prefix_len (λ b. not (is_space b)) xs
 
--- the word that goes from i to j, and the words behind it
-pub word_run : (line : List ℕ) (j m i : ℕ) → i + suc m ≡ j → j ≤ length line → ((k : ℕ) → i ≤ k → k < j → get_or line k 0 ≡ 32 → ⊥) → (j < length line → get_or line j 0 ≡ 32) → words_from (i + 1) (drop i line) ≡ record { column = i + 1; bytes = take (suc m) (drop i line) } ∷ words_from (j + 1) (drop j line)
-word_run line j zero i e fits inside stops =
-    let lt : i < length line = omega arith in
-    let at : get_or line i 0 ≡ 32 → ⊥ = inside i (omega arith) (omega arith) in
-    let next : i + 1 ≡ j = omega arith in
-    at_drop_more (words_from (i + 1)) line i 0 lt
-    ∙ other _ _ _ (ne_eqb (get_or line i 0) 32 at)
-    ∙ ap (λ t. put_before (i + 1) (get_or line i 0) t (words_from (i + 1 + 1) (drop (i + 1) line))) (ended line (i + 1) (λ h. rw next (stops (rw next at h))))
-    ∙ ap (λ k. record { column = i + 1; bytes = get_or line i 0 ∷ [] } ∷ words_from (k + 1) (drop k line)) next
-    ∙ ap (λ bs. record { column = i + 1; bytes = bs } ∷ words_from (j + 1) (drop j line)) (sym (at_drop_more (take 1) line i 0 lt))
-word_run line j (suc m) i e fits inside stops =
-    let lt : i < length line = omega arith in
-    let at : get_or line i 0 ≡ 32 → ⊥ = inside i (omega arith) (omega arith) in
-    let after : get_or line (i + 1) 0 ≡ 32 → ⊥ = inside (i + 1) (omega arith) (omega arith) in
-    at_drop_more (words_from (i + 1)) line i 0 lt
-    ∙ other _ _ _ (ne_eqb (get_or line i 0) 32 at)
-    ∙ ap (λ t. put_before (i + 1) (get_or line i 0) t (words_from (i + 1 + 1) (drop (i + 1) line))) (goes_on_at line (i + 1) (omega arith) after)
-    ∙ ap (put_before (i + 1) (get_or line i 0) true) (word_run line j m (i + 1) (omega arith) fits (λ k a b. inside k (omega arith) b) stops)
-    ∙ ap (λ bs. record { column = i + 1; bytes = bs } ∷ words_from (j + 1) (drop j line)) (sym (at_drop_more (take (suc (suc m))) line i 0 lt))
+module _ (c b : ℕ) (bs : List ℕ) where
+  by_space : words_from (c + 1) bs ≡ words_from (c + 1 + spaces bs) (drop (spaces bs) bs) → is_space b ≡ true → words_from c (b ∷ bs) ≡ words_from (c + spaces (b ∷ bs)) (drop (spaces (b ∷ bs)) (b ∷ bs))
+  by_space more e =
+      let one : 1 + spaces bs ≡ suc (spaces bs) = omega arith in
+      let n : spaces (b ∷ bs) ≡ suc (spaces bs) = ap (λ t. cond (not (not t)) (1 + spaces bs) 0) e ∙ one in
+      let far : c + 1 + spaces bs ≡ c + suc (spaces bs) = omega arith in
+      chosen _ _ _ e ∙ more ∙ ap (λ k. words_from k (drop (spaces bs) bs)) far ∙ sym (ap (λ k. words_from (c + k) (drop k (b ∷ bs))) n)
 
-pub word_at : (line : List ℕ) (i j : ℕ) → i < j → j ≤ length line → ((k : ℕ) → i ≤ k → k < j → get_or line k 0 ≡ 32 → ⊥) → (j < length line → get_or line j 0 ≡ 32) → words_from (i + 1) (drop i line) ≡ record { column = i + 1; bytes = take (j - i) (drop i line) } ∷ words_from (j + 1) (drop j line)
-word_at line i j lt fits inside stops =
-    let e : suc (j - i - 1) ≡ j - i = omega arith in
-    word_run line j (j - i - 1) i (omega arith) fits inside stops ∙ ap (λ n. record { column = i + 1; bytes = take n (drop i line) } ∷ words_from (j + 1) (drop j line)) e
+  by_none : is_space b ≡ false → words_from c (b ∷ bs) ≡ words_from (c + spaces (b ∷ bs)) (drop (spaces (b ∷ bs)) (b ∷ bs))
+  by_none e =
+      let n : spaces (b ∷ bs) ≡ 0 = ap (λ t. cond (not (not t)) (1 + spaces bs) 0) e in
+      let here : c ≡ c + 0 = omega arith in
+      ap (λ k. words_from k (b ∷ bs)) here ∙ sym (ap (λ k. words_from (c + k) (drop k (b ∷ bs))) n)
 
--- no word is left where a space may neither stand nor be missing
-pub no_word : (line : List ℕ) (i j : ℕ) → i ≡ j → (i < length line → get_or line i 0 ≡ 32 → ⊥) → (j < length line → get_or line j 0 ≡ 32) → words_from (j + 1) (drop j line) ≡ []
-no_word line i j e none some =
-    ⊎_elim (λ lt. absurd (none (omega arith) (ap (λ k. get_or line k 0) e ∙ some lt))) (λ le. at_drop_all (words_from (j + 1)) line j le) (cases_lt j (length line))
+-- spaces are no part of any word
+pub skipped : (c : ℕ) (xs : List ℕ) → words_from c xs ≡ words_from (c + spaces xs) (drop (spaces xs) xs)
+skipped c [] = refl
+skipped c (b ∷ bs) = ⊎_elim (λ e. by_space c b bs (skipped (c + 1) bs) e) (λ e. by_none c b bs e) (either (is_space b))
+
+no_more : (bs : List ℕ) → goes_on bs ≡ false → first_len bs ≡ 0
+no_more [] e = refl
+no_more (b ∷ bs) e = ap (λ t. cond t (1 + first_len bs) 0) e
+
+module _ (c b : ℕ) (bs : List ℕ) (e : is_space b ≡ false) where
+  one_more : first_len (b ∷ bs) ≡ suc (first_len bs)
+  one_more = let one : 1 + first_len bs ≡ suc (first_len bs) = omega arith in ap (λ t. cond (not t) (1 + first_len bs) 0) e ∙ one
+
+  -- the word that stands in front, so long
+  abbrev Front : ℕ → Type 0
+  Front n = words_from c (b ∷ bs) ≡ record { column = c; bytes = take n (b ∷ bs) } ∷ words_from (c + n) (drop n (b ∷ bs))
+
+  grows : goes_on bs ≡ true → words_from (c + 1) bs ≡ record { column = c + 1; bytes = take (first_len bs) bs } ∷ words_from (c + 1 + first_len bs) (drop (first_len bs) bs) → Front (first_len (b ∷ bs))
+  grows g more =
+      let far : c + 1 + first_len bs ≡ c + suc (first_len bs) = omega arith in
+      subst Front (sym one_more)
+      (other _ _ _ e
+      ∙ ap (λ t. put_before c b t (words_from (c + 1) bs)) g
+      ∙ ap (put_before c b true) more
+      ∙ ap (λ k. record { column = c; bytes = b ∷ take (first_len bs) bs } ∷ words_from k (drop (first_len bs) bs)) far)
+
+  ends : goes_on bs ≡ false → Front (first_len (b ∷ bs))
+  ends g =
+      subst Front (sym (one_more ∙ ap (λ k. suc k) (no_more bs g))) (other _ _ _ e ∙ ap (λ t. put_before c b t (words_from (c + 1) bs)) g)
+
+-- the word in front, and the words behind it
+pub front_word : (c : ℕ) (xs : List ℕ) → goes_on xs ≡ true → words_from c xs ≡ record { column = c; bytes = take (first_len xs) xs } ∷ words_from (c + first_len xs) (drop (first_len xs) xs)
+front_word c [] e = let z : ◌≡◌ {A = ℕ} 0 1 = cc in absurd (omega arith)
+front_word c (b ∷ bs) e =
+    let at : is_space b ≡ false = ⊎_elim (λ t. let z : ◌≡◌ {A = ℕ} 0 1 = cc (e, ap not t) in absurd (omega arith)) (λ t. t) (either (is_space b)) in
+    ⊎_elim (λ g. grows c b bs at g (front_word (c + 1) bs g)) (λ g. ends c b bs at g) (either (goes_on bs))
+
+-- how long the word in front is, as it is counted
+abbrev pub word_len : List ℕ → ℕ
+word_len xs = length (take_while (λ b. not (is_space b)) xs)
+
+-- where the first word begins, if there is one
+abbrev pub first_at : List ℕ → Option ℕ
+first_at xs = position (λ b. not (is_space b)) xs
+
+pub no_words : (c : ℕ) (xs : List ℕ) → first_at xs ≡ None → words_from c xs ≡ []
+no_words c xs e =
+    ⊎_elim
+    (λ lt. let f : first_at xs ≡ Some (spaces xs) = ap (λ t. cond t (Some (spaces xs)) None) (lt-ltb (spaces xs) (length xs) lt) in absurd (none-some _ (sym e ∙ f)))
+    (λ le. skipped c xs ∙ at_drop_all (words_from (c + spaces xs)) xs (spaces xs) le)
+    (cases_lt (spaces xs) (length xs))
+
+to_first : (c i : ℕ) (xs : List ℕ) → first_at xs ≡ Some i → words_from c xs ≡ words_from (c + i) (drop i xs)
+to_first c i xs e =
+    let h = position-Some (λ b. not (is_space b)) xs i 0 e in
+    ⊎_elim
+    (λ lt. let f : first_at xs ≡ Some (spaces xs) = ap (λ t. cond t (Some (spaces xs)) None) (lt-ltb (spaces xs) (length xs) lt) in
+    let same : spaces xs ≡ i = cc (e, f) in
+    skipped c xs ∙ ap (λ k. words_from (c + k) (drop k xs)) same)
+    (λ le. let f : first_at xs ≡ None = ap (λ t. cond t (Some (spaces xs)) None) (le-ltb (spaces xs) (length xs) le) in absurd (none-some _ (sym f ∙ e)))
+    (cases_lt (spaces xs) (length xs))
+
+pub next_word : (line : List ℕ) (at i n : ℕ) → first_at (drop at line) ≡ Some i → n ≡ word_len (drop (at + i) line) → words_from (at + 1) (drop at line) ≡ record { column = at + i + 1; bytes = take n (drop (at + i) line) } ∷ words_from (at + i + n + 1) (drop (at + i + n) line)
+next_word line at i n e m =
+    let h = position-Some (λ b. not (is_space b)) (drop at line) i 0 e in
+    let ys : List ℕ = drop (at + i) line in
+    let on : goes_on (drop i (drop at line)) ≡ true = at_drop_more goes_on (drop at line) i 0 h.0 ∙ h.1 in
+    let same : n ≡ first_len ys = m ∙ length-prefix_len (λ b. not (is_space b)) ys in
+    let far : at + 1 + i ≡ at + i + 1 = omega arith in
+    let end : at + i + 1 + n ≡ at + i + n + 1 = omega arith in
+    to_first (at + 1) i (drop at line) e
+    ∙ ap (λ k. words_from k (drop i (drop at line))) far
+    ∙ ap (words_from (at + i + 1)) (drop-drop i at line)
+    ∙ front_word (at + i + 1) ys (ap goes_on (sym (drop-drop i at line)) ∙ on)
+    ∙ ap (λ k. record { column = at + i + 1; bytes = take k ys } ∷ words_from (at + i + 1 + k) (drop k ys)) (sym same)
+    ∙ ap (λ k. record { column = at + i + 1; bytes = take n ys } ∷ words_from k (drop n ys)) end
+    ∙ ap (λ xs. record { column = at + i + 1; bytes = take n ys } ∷ words_from (at + i + n + 1) xs) (drop-drop n (at + i) line)
+
+-- what stands from i on, as a slice
+pub tail_is : (line : List ℕ) (i : ℕ) → take (length line - i) (drop i line) ≡ drop i line
+tail_is line i = take_all (length line - i) (drop i line) (omega (arith, length-drop i line))
+
+pub nothing_left : (line : List ℕ) → words_from (length line + 1) (drop (length line) line) ≡ []
+nothing_left line = at_drop_all (words_from (length line + 1)) line (length line) (omega arith)
 
 -- a token is the first word whatever follows
 pub first_before : (end : ℕ) (w : Word) (ws : List Word) (t : Token) → First 0 (w ∷ []) t → First end (w ∷ ws) t
@@ -79,24 +136,6 @@ first_before end w ws (Number c bs v) f = f
 first_before end w ws (Name c bs) f = f
 first_before end w ws (End c) f = f
 
--- one digit more
-pub digits_more : (v i : ℕ) (ds : List ℕ) → i < length ds → 48 ≤ get_or ds i 0 → get_or ds i 0 ≤ 57 → digits_after v (drop i ds) ≡ digits_after (v * 10 + (get_or ds i 0 - 48)) (drop (i + 1) ds)
-digits_more v i ds lt low high = at_drop_more (digits_after v) ds i 0 lt ∙ tested _ _ _ _ (le-leb 48 (get_or ds i 0) low) (le-leb (get_or ds i 0) 57 high)
-
--- a byte that is no digit
-pub digits_none : (v i : ℕ) (ds : List ℕ) → i < length ds → (get_or ds i 0 < 48) ⊎ (57 < get_or ds i 0) → digits_after v (drop i ds) ≡ None
-digits_none v i ds lt h = at_drop_more (digits_after v) ds i 0 lt ∙ failed _ _ _ _ (⊎_elim (λ a. inl (lt-leb 48 (get_or ds i 0) a)) (λ a. inr (lt-leb (get_or ds i 0) 57 a)) h)
-
-pub digits_bound : (v d i : ℕ) → v < 10 ^ i → d ≤ 9 → v * 10 + d < 10 ^ (i + 1)
-digits_bound v d i h k = subst (λ n. v * 10 + d < n) (sym (ap (λ j. 10 ^ j) (add-one i) ∙ pow-suc 10 i)) (omega arith)
-
+-- a number of at most seven digits
 pub seven_digits : (v i : ℕ) → v < 10 ^ i → i ≤ 7 → v < 10000000
 seven_digits v i h k = omega (arith, pow-le-pow_right {n = 10} (omega arith) k)
-
--- one to seven digits
-pub few_digits : (ds : List ℕ) → 1 ≤ length ds → length ds ≤ 7 → magnitude ds ≡ digits_after 0 ds
-few_digits ds low high = tested _ _ _ _ (le-leb 1 (length ds) low) (le-leb (length ds) 7 high)
-
--- digits behind a minus
-pub behind_minus : (bs : List ℕ) → 0 < length bs → get_or bs 0 0 ≡ 45 → number bs ≡ option_map (λ n. neg_ℤ (pos n)) (magnitude (take (length bs - 1) (drop 1 bs)))
-behind_minus bs some e = ap number (first_rest bs 0 some) ∙ ap (λ b. number (b ∷ take (length bs - 1) (drop 1 bs))) e

@@ -1,6 +1,6 @@
 -- One call on the console's controller.
-use Rattle.std.proofs.Common.{◌≡◌, ℕ, zero, suc, ◌+◌, ◌-◌, ◌≤◌, List, [], ◌∷◌, length, get_or, take, drop, ℤ, pos, Some, None, Option, sym, refl, ap, ◌∙◌, subst, arith, Bor}
-use Rattle.std.proofs.lemmas.List.{drop-take}
+use Rattle.std.proofs.Common.{◌≡◌, ℕ, ◌-◌, ◌≤◌, List, [], ◌∷◌, length, get_or, take, drop, ℤ, pos, Some, None, Option, refl, ap, ◌∙◌, subst, arith, Bor, true, rules}
+use Rattle.std.proofs.lemmas.List.{length-drop, take_all}
 use Rattle.std.specs.Option.{option_map}
 use Rattle.fault.specs.declared.Fault.{Fault}
 use Rattle.legs.specs.Kinds.{stepped}
@@ -9,21 +9,20 @@ use Rattle.legs.specs.declared.leg.Leg.{Ghosts as LegGhosts}
 use Rattle.legs.specs.declared.measure.Measure.{Ghosts as MeasureGhosts}
 use Rattle.legs.specs.declared.squared.Squared.{Squared}
 use Rattle.legs.specs.declared.stepped.Stepped.{Stepped}
-use Rattle.controller.specs.Law.{Answered, AnsweredBy, Stands}
+use Rattle.controller.specs.Law.{Answered, AnsweredBy}
 use Rattle.controller.specs.Logbook.{Logbook, refusal, step}
 use Rattle.controller.specs.Problems.{Setup, built}
-use Rattle.controller.specs.View.{Plans, Same, book_of, planned, reading_of}
-use Rattle.controller.specs.declared.calls.Call.{Call}
+use Rattle.controller.specs.View.{Does, Plans, Same, book_of, planned, reading_of}
 use Rattle.controller.specs.declared.calls.Call.TheVariants.{Plan}
 use Rattle.controller.specs.declared.calls.Reply.{Reply}
 use Rattle.controller.specs.declared.calls.Reply.TheVariants.{Granted, Planned, Denied}
-use Rattle.controller.proofs.Standing.{stands_step}
 use Rattle.controller.specs.declared.sequence.Plan.{Plan as PlanOf}
-use Rattle.console.specs.Ready.{Npc, Own, Took, granted_with}
-use Rattle.console.specs.Requests.{values_of}
-use Rattle.console.specs.declared.numbers.Numbers.{Numbers}
+use Rattle.console.specs.Ready.{Npc, Own, Ready, Took, granted_with, spending}
+use Rattle.console.specs.declared.requests.Spend.{Spend}
+use Rattle.console.specs.declared.requests.Spend.TheVariants.{Fire as ToFire, Withdraw as ToWithdraw}
 use Rattle.console.specs.Texts.{npc}
-use Rattle.console.specs.Turns.{identity, lent, npc_setup}
+use Rattle.console.specs.Requests.{asked_with}
+use Rattle.console.specs.Turns.{Performed, identity, lent, npc_setup}
 
 -- what a controller is built with, by its legs
 abbrev pub setup_by : {ghosts_m : MeasureGhosts Squared ℕ} {ghosts_a ghosts_b ghosts_c : LegGhosts Stepped} → Npc ghosts_m ghosts_a ghosts_b ghosts_c → Setup ℕ
@@ -37,13 +36,12 @@ setup_is c o =
     cc
 
 -- a call does not change whose controller it is
-own_on : {ghosts_m : MeasureGhosts Squared ℕ} {ghosts_a ghosts_b ghosts_c : LegGhosts Stepped} → (c d : Npc ghosts_m ghosts_a ghosts_b ghosts_c) (call : Call) (r : Reply ℕ) → Own c → Same c d → Answered npc_setup identity (book_of c) call r → book_of d ≡ step (book_of c) call r → Own d
-own_on c d call r o s an after = record {
+own_on : {ghosts_m : MeasureGhosts Squared ℕ} {ghosts_a ghosts_b ghosts_c : LegGhosts Stepped} → (c d : Npc ghosts_m ghosts_a ghosts_b ghosts_c) → Own c → Same c d → Own d
+own_on c d o s = record {
   identity_is = s.identity ∙ o.identity_is;
   leg_a = (ap (λ l. l.reach) s.leg_a ∙ o.leg_a.0, ap (λ l. l.stride) s.leg_a ∙ o.leg_a.1);
   leg_b = (ap (λ l. l.reach) s.leg_b ∙ o.leg_b.0, ap (λ l. l.stride) s.leg_b ∙ o.leg_b.1);
   leg_c = (ap (λ l. l.reach) s.leg_c ∙ o.leg_c.0, ap (λ l. l.stride) s.leg_c ∙ o.leg_c.1);
-  stands = subst (λ (k : Logbook). Stands npc_setup k) (sym after) (stands_step npc_setup (book_of c) identity call r o.stands an);
 }
 
 -- plans of the same numbers are the same
@@ -61,7 +59,7 @@ pub plan_took : {ghosts_m : MeasureGhosts Squared ℕ} {ghosts_a ghosts_b ghosts
 plan_took c d i y r j ys o p q k =
     let s = setup_is c o in
     let b = book_of c in
-    let told : Answered (setup_by c) c.identity b (Plan i y) r = k.answers (subst (λ (z : Setup ℕ). Stands z b) (sym s) o.stands) in
+    let told : Answered (setup_by c) c.identity b (Plan i y) r = k.answers in
     let here : Answered npc_setup identity b (Plan i y) r =
     subst (λ (n : ℕ). Answered npc_setup n b (Plan i y) r) o.identity_is (subst (λ (z : Setup ℕ). Answered z c.identity b (Plan i y) r) s told)
     in
@@ -72,27 +70,30 @@ plan_took c d i y r j ys o p q k =
     let aft : book_of d ≡ step b (Plan j (lent ys)) r =
     k.after ∙ step_alike b i y r ∙ ap (λ (l : List ℤ). step b (Plan i (lent l)) r) q ∙ ap (λ (l : List ℤ). step b (Plan l (lent ys)) r) p
     in
-    record { answers = an; after = aft; own = own_on c d (Plan j (lent ys)) r o k.same an aft }
+    record { answers = an; after = aft; own = own_on c d o k.same }
 
 -- the first two of some numbers, and the others
-pub first_two : (n : ℕ) (vs : List ℤ) → 2 ≤ n → 2 ≤ length vs → get_or vs 0 (pos 0) ∷ (get_or vs 1 (pos 0) ∷ []) ≡ take 2 (take n vs)
-first_two (suc (suc n)) (x ∷ y ∷ vs) a b = refl
-first_two (suc (suc n)) (x ∷ []) a b = absurd (omega arith)
-first_two (suc (suc n)) [] a b = absurd (omega arith)
-first_two (suc zero) vs a b = absurd (omega arith)
-first_two zero vs a b = absurd (omega arith)
+pub first_two : (vs : List ℤ) → 2 ≤ length vs → get_or vs 0 (pos 0) ∷ (get_or vs 1 (pos 0) ∷ []) ≡ take 2 vs
+first_two (x ∷ y ∷ vs) a = refl
+first_two (x ∷ []) a = absurd (omega arith)
+first_two [] a = absurd (omega arith)
 
-pub past_two : (n : ℕ) (vs : List ℤ) → 2 ≤ n → take (n - 2) (drop 2 vs) ≡ drop 2 (take n vs)
-past_two n vs h =
-    let e : 2 + (n - 2) ≡ n = omega arith in
-    sym (drop-take 2 (n - 2) vs) ∙ ap (λ k. drop 2 (take k vs)) e
-
-pub numbers_took : {ghosts_m : MeasureGhosts Squared ℕ} {ghosts_a ghosts_b ghosts_c : LegGhosts Stepped} → (n : Numbers) (c d : Npc ghosts_m ghosts_a ghosts_b ghosts_c) (x y : ℤ) (refs : Bor (List ℤ)) (r : Reply ℕ) → 2 ≤ n.count → Own c → x ≡ get_or n.values 0 (pos 0) → y ≡ get_or n.values 1 (pos 0) → refs.now ≡ take (n.count - 2) (drop 2 n.values) → Plans (setup_by c) c (Plan (x ∷ (y ∷ [])) refs) r d → Took c (Plan (take 2 (values_of n)) (lent (drop 2 (values_of n)))) r d
-numbers_took n c d x y refs r some o p q e k =
-    let vs = n.values in
-    let currents : x ∷ (y ∷ []) ≡ take 2 (values_of n) = ap (λ z. z ∷ (y ∷ [])) p ∙ ap (λ z. get_or vs 0 (pos 0) ∷ (z ∷ [])) q ∙ first_two n.count vs some (omega (arith, n.long)) in
-    plan_took c d (x ∷ (y ∷ [])) refs r (take 2 (values_of n)) (drop 2 (values_of n)) o currents (e ∙ past_two n.count vs some) k
+pub numbers_took : {ghosts_m : MeasureGhosts Squared ℕ} {ghosts_a ghosts_b ghosts_c : LegGhosts Stepped} → (vs : List ℤ) (c d : Npc ghosts_m ghosts_a ghosts_b ghosts_c) (x y : ℤ) (refs : Bor (List ℤ)) (r : Reply ℕ) → 2 ≤ length vs → Own c → x ≡ get_or vs 0 (pos 0) → y ≡ get_or vs 1 (pos 0) → refs.now ≡ take (length vs - 2) (drop 2 vs) → Plans (setup_by c) c (Plan (x ∷ (y ∷ [])) refs) r d → Took c (Plan (take 2 vs) (lent (drop 2 vs))) r d
+numbers_took vs c d x y refs r some o p q e k =
+    let currents : x ∷ (y ∷ []) ≡ take 2 vs = ap (λ z. z ∷ (y ∷ [])) p ∙ ap (λ z. get_or vs 0 (pos 0) ∷ (z ∷ [])) q ∙ first_two vs some in
+    let rest : take (length vs - 2) (drop 2 vs) ≡ drop 2 vs = take_all (length vs - 2) (drop 2 vs) (omega (arith, length-drop 2 vs)) in
+    plan_took c d (x ∷ (y ∷ [])) refs r (take 2 vs) (drop 2 vs) o currents (e ∙ rest) k
 
 pub as_read : (p : Option (PlanOf ℕ)) → planned p ≡ granted_with (option_map reading_of p)
 as_read (Some p) = refl
 as_read None = refl
+
+-- an order that is spent leaves the console's controller ready
+pub spent_ready : {ghosts_m : MeasureGhosts Squared ℕ} {ghosts_a ghosts_b ghosts_c : LegGhosts Stepped} → (how : Spend) (d e : Npc ghosts_m ghosts_a ghosts_b ghosts_c) (o : ℕ) → Own d → d.pending ≡ true → o ≡ d.identity → Does d (spending how o) Granted e → Ready e
+spent_ready ToFire d e o t q i k = search rules
+spent_ready ToWithdraw d e o t q i k = search rules
+
+-- a plan that is refused is all that was done, however its order would have been spent
+pub plan_refused : {ghosts_m : MeasureGhosts Squared ℕ} {ghosts_a ghosts_b ghosts_c : LegGhosts Stepped} → (file : List ℕ) (how : Spend) (vs : List ℤ) (c d : Npc ghosts_m ghosts_a ghosts_b ghosts_c) (f : Fault) → Took c (Plan (take 2 vs) (lent (drop 2 vs))) (Denied f) d → Performed file (asked_with how vs) (book_of c) (Denied f) (book_of d)
+plan_refused file ToFire vs c d f t = record { answers = t.answers; book = t.after }
+plan_refused file ToWithdraw vs c d f t = record { answers = t.answers; book = t.after }

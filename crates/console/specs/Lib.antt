@@ -3,7 +3,6 @@ pub mod Tokens
 pub mod Lines
 pub mod Requests
 pub mod Texts
-pub mod Standing
 pub mod Turns
 pub mod Ready
 pub mod Said

@@ -4,10 +4,11 @@ use Rattle.std.specs.Option.{unwrap_or}
 use Rattle.std.specs.Str.{bytes_eq}
 use Rattle.fault.specs.Refusals.{first_some, unless}
 use Rattle.fault.specs.declared.Fault.{Fault}
-use Rattle.fault.specs.declared.Layer.TheVariants.{Console}
 use Rattle.console.specs.Words.{Word, number, phase, words}
 use Rattle.console.specs.declared.requests.Verb.{Verb}
 use Rattle.console.specs.declared.requests.Verb.TheVariants.{Load, Limit, Bar, Free, Step, Try}
+use Rattle.fault.specs.Rules.{refused}
+use Rattle.fault.specs.declared.rule.Rule.TheVariants.{CommandWord, PhaseLetter, NumberWord, WordCount, LineLength}
 
 -- What a line can ask for. The numbers of a plan are its two currents and then its references.
 pub data Asked : Type 0 where
@@ -17,9 +18,6 @@ pub data Asked : Type 0 where
   free : ℕ → Asked
   step : List ℤ → Asked
   try : List ℤ → Asked
-
-abbrev pub console_fault : ℕ → ℕ → Fault
-console_fault number place = record { layer = Console; number = number; place = place }
 
 -- the most bytes that a line may have
 abbrev pub longest_line : ℕ
@@ -39,7 +37,7 @@ verb w =
 -- 42: a phase word that is there and is no phase
 abbrev pub no_phase : ℕ → Option ℕ → Option Fault
 no_phase column (Some p) = None
-no_phase column None = Some (console_fault 42 column)
+no_phase column None = Some (refused PhaseLetter column)
 
 abbrev pub phase_refusal : List Word → Option Fault
 phase_refusal [] = None
@@ -48,7 +46,7 @@ phase_refusal (w ∷ ws) = no_phase w.column (phase w.bytes)
 -- 43: a word that is no number among those that may be numbers, the first of them
 abbrev pub no_number : ℕ → Option ℤ → Option Fault
 no_number column (Some z) = None
-no_number column None = Some (console_fault 43 column)
+no_number column None = Some (refused NumberWord column)
 
 abbrev pub numbers_refusal : ℕ → List Word → Option Fault
 numbers_refusal zero ws = None
@@ -58,11 +56,11 @@ numbers_refusal (suc most) (w ∷ ws) = first_some (no_number w.column (number w
 -- 44: a word too many
 abbrev pub left_over : List Word → Option Fault
 left_over [] = None
-left_over (w ∷ ws) = Some (console_fault 44 w.column)
+left_over (w ∷ ws) = Some (refused WordCount w.column)
 
 -- 44: fewer words than the least, or more than the most
 abbrev pub count_refusal : ℕ → ℕ → ℕ → List Word → Option Fault
-count_refusal least most end ws = first_some (unless (nat_le least (length ws)) (console_fault 44 end)) (left_over (drop most ws))
+count_refusal least most end ws = first_some (unless (nat_le least (length ws)) (refused WordCount end)) (left_over (drop most ws))
 
 -- what is wrong with the words behind a command
 abbrev pub arguments_refusal : Verb → ℕ → List Word → Option Fault
@@ -75,7 +73,7 @@ arguments_refusal Try end ws = first_some (numbers_refusal 12 ws) (count_refusal
 
 -- 41: the first word is no command
 abbrev pub command_refusal : Option Verb → ℕ → ℕ → List Word → Option Fault
-command_refusal None column end ws = Some (console_fault 41 column)
+command_refusal None column end ws = Some (refused CommandWord column)
 command_refusal (Some v) column end ws = arguments_refusal v end ws
 
 abbrev pub words_refusal : ℕ → List Word → Option Fault
@@ -84,7 +82,7 @@ words_refusal end (w ∷ ws) = command_refusal (verb w.bytes) w.column end ws
 
 -- the refusal that a line gets, if any; 46: it is too long
 abbrev pub line_refusal : List ℕ → Option Fault
-line_refusal line = first_some (unless (nat_le (length line) longest_line) (console_fault 46 (longest_line + 1))) (words_refusal (length line + 1) (words line))
+line_refusal line = first_some (unless (nat_le (length line) longest_line) (refused LineLength (longest_line + 1))) (words_refusal (length line + 1) (words line))
 
 -- the numbers that words write
 abbrev pub values : List Word → List ℤ

@@ -1,23 +1,26 @@
 -- The console's controller between two lines, and one call on it.
-use Rattle.std.specs.Prelude.{◌≡◌, ℕ, ◌≤◌, true, false, List, Some, None, Ok, Err, Option, Result}
+use Rattle.std.specs.Prelude.{◌≡◌, ℕ, ◌≤◌, true, false, Some, None, Ok, Err, Option, Result}
 use Rattle.fault.specs.declared.Fault.{Fault}
 use Rattle.legs.specs.declared.leg.Leg.{Ghosts as LegGhosts}
 use Rattle.legs.specs.declared.measure.Measure.{Ghosts as MeasureGhosts}
 use Rattle.legs.specs.declared.squared.Squared.{Squared}
 use Rattle.legs.specs.declared.stepped.Stepped.{Stepped}
-use Rattle.controller.specs.Law.{Answered, Stands}
+use Rattle.controller.specs.Law.{Answered}
 use Rattle.controller.specs.Logbook.{step}
 use Rattle.controller.specs.View.{book_of}
 use Rattle.controller.specs.declared.calls.Call.{Call}
+use Rattle.controller.specs.declared.calls.Call.TheVariants.{Fire, Withdraw}
 use Rattle.controller.specs.declared.calls.Reading.{Reading}
 use Rattle.controller.specs.declared.calls.Reply.{Reply}
 use Rattle.controller.specs.declared.calls.Reply.TheVariants.{Granted, Planned, Denied}
 use Rattle.controller.specs.declared.order.Order.{Order}
 use Rattle.controller.specs.declared.state.Controller.{Controller}
-use Rattle.console.specs.Lines.{Asked}
+use Rattle.arrayvec.specs.ArrayVec.{array_vec_len}
 use Rattle.console.specs.declared.requests.Request.{Request}
-use Rattle.console.specs.declared.requests.Request.TheVariants.{Load as LoadRequest, Limit as LimitRequest, Bar as BarRequest, Free as FreeRequest, Step as StepRequest, Try as TryRequest}
-use Rattle.console.specs.Turns.{Performed, identity, npc_setup}
+use Rattle.console.specs.declared.requests.Request.TheVariants.{Load as LoadRequest, Limit as LimitRequest, Bar as BarRequest, Free as FreeRequest, Plan as PlanRequest}
+use Rattle.console.specs.declared.requests.Spend.{Spend}
+use Rattle.console.specs.declared.requests.Spend.TheVariants.{Fire as ToFire, Withdraw as ToWithdraw}
+use Rattle.console.specs.Turns.{identity, npc_setup}
 
 -- a controller of three legs of these kinds, by the ghost members of its measure and its legs
 abbrev pub Npc : MeasureGhosts Squared ℕ → LegGhosts Stepped → LegGhosts Stepped → LegGhosts Stepped → Type 0
@@ -32,7 +35,6 @@ pub record Own {ghosts_m : MeasureGhosts Squared ℕ} {ghosts_a ghosts_b ghosts_
   pub leg_a : IsNpc c.legs.a.below
   pub leg_b : IsNpc c.legs.b.below
   pub leg_c : IsNpc c.legs.c.below
-  pub stands : Stands npc_setup (book_of c)
 
 -- and no order is open
 pub record Ready {ghosts_m : MeasureGhosts Squared ℕ} {ghosts_a ghosts_b ghosts_c : LegGhosts Stepped} (c : Npc ghosts_m ghosts_a ghosts_b ghosts_c) : Type 0 where
@@ -44,11 +46,6 @@ pub record Took {ghosts_m : MeasureGhosts Squared ℕ} {ghosts_a ghosts_b ghosts
   pub answers : Answered npc_setup identity (book_of c) call r
   pub after : book_of d ≡ step (book_of c) call r
   pub own : Own d
-
--- what is asked for is done, and the next line may come
-pub record Done {ghosts_m : MeasureGhosts Squared ℕ} {ghosts_a ghosts_b ghosts_c : LegGhosts Stepped} (file : List ℕ) (a : Asked) (c : Npc ghosts_m ghosts_a ghosts_b ghosts_c) (r : Reply ℕ) (d : Npc ghosts_m ghosts_a ghosts_b ghosts_c) : Type 0 where
-  pub performed : Performed file a (book_of c) r (book_of d)
-  pub ready : Ready d
 
 -- a plan that may have been made, as a reply
 abbrev pub granted_with : Option (Reading ℕ) → Reply ℕ
@@ -71,5 +68,9 @@ Complete LoadRequest = Unit {0}
 Complete (LimitRequest z) = Unit {0}
 Complete (BarRequest p) = Unit {0}
 Complete (FreeRequest p) = Unit {0}
-Complete (StepRequest n) = 2 ≤ n.count
-Complete (TryRequest n) = 2 ≤ n.count
+Complete (PlanRequest n s) = 2 ≤ array_vec_len n
+
+-- the call that spends an order
+abbrev pub spending : Spend → ℕ → Call
+spending ToFire order = Fire order
+spending ToWithdraw order = Withdraw order

@@ -11,9 +11,11 @@ use Rattle.controller.specs.declared.calls.Call.{Call}
 use Rattle.controller.specs.declared.calls.Call.TheVariants.{Load, Limit, Bar, Free, Plan, Fire, Withdraw}
 use Rattle.controller.specs.declared.calls.Reply.{Reply}
 use Rattle.controller.specs.declared.calls.Reply.TheVariants.{Granted, Planned, Denied}
-use Rattle.console.specs.Lines.{Asked, load, limit, bar, free, step, try, asked, console_fault, line_refusal}
+use Rattle.console.specs.Lines.{Asked, load, limit, bar, free, step, try, asked, line_refusal}
 use Rattle.console.specs.Texts.{Puts, npc, reply_text}
 use Rattle.console.specs.Words.{words}
+use Rattle.fault.specs.Rules.{refused}
+use Rattle.fault.specs.declared.rule.Rule.TheVariants.{AnswerBuffer}
 
 -- the identity of the console's controller, and of its orders
 abbrev pub identity : ℕ
@@ -82,4 +84,4 @@ pub record Prints (file line : List ℕ) (before : Logbook) (out : List ℕ) (n 
 -- 45: a buffer that is too short is refused, and nothing is touched; otherwise the line is answered
 abbrev pub AnswersLine : List ℕ → List ℕ → Logbook → List ℕ → Result ℕ Fault → List ℕ → Logbook → Type 0
 AnswersLine file line before out (Ok n) out' after = Prints file line before out n out' after
-AnswersLine file line before out (Err f) out' after = (length out < room) × (f ≡ console_fault 45 0) × (out' ≡ out) × (after ≡ before)
+AnswersLine file line before out (Err f) out' after = (length out < room) × (f ≡ refused AnswerBuffer 0) × (out' ≡ out) × (after ≡ before)

@@ -2,10 +2,7 @@
 #![tactic(auto)]
 
 mod answer;
-mod calls;
-mod numbers;
 mod printing;
-mod refusal;
 mod requests;
 pub mod state;
 mod words;

@@ -1,147 +1,136 @@
-// Answers as bytes. Each function writes behind what is there already, and gives the end of what it wrote.
-ghost use Rattle.std.specs.Prelude.{◌≡◌, ℕ, ◌+◌, ◌≤◌, ◌++◌, length, codes, decimal};
+// Answers as text.
+ghost use Rattle.std.specs.Prelude.{◌≡◌, ℕ, ◌+◌, ◌≤◌, ◌++◌, length, codes};
 ghost use Rattle.std.specs.Fmt.{signed_decimal};
+ghost use Rattle.arrayvec.specs.ArrayString.{array_string_len};
 ghost use Rattle.fault.specs.Printed.{refusal_line};
 ghost use Rattle.controller.specs.declared.calls.Reply.TheVariants.{Planned};
 ghost use Rattle.console.specs.Said.{answer_text};
 ghost use Rattle.console.specs.Texts.{Puts, level_of, levels_text, mark_word, npc, reply_text, search_text};
 
 use crate::answer::Answer;
+use arrayvec::ArrayString;
 use controller::calls::Reading;
 use decoder::Mark;
 use fault::Fault;
+use itoa::{Buffer, Integer};
 use legs::leg::Leg;
 use legs::stepped::Stepped;
 
 // Room for any answer.
 pub(crate) const ROOM: usize = 96;
 
-fn put(out: &mut [u8], at: usize, bytes: &[u8]) -> usize
-    requires { at + length bytes.now ≤ length out.old }
-    ensures { Puts out.old at bytes.now result out.new }
-{
-    let end = at + bytes.len();
-    out[at..end].copy_from_slice(bytes);
-    end
-}
+// The text of an answer. Its parts are pushed one by one and not formatted: a `write!` may fail for all that its contract says,
+// also where there is room, and an answer may not.
+pub(crate) type Text = ArrayString<96>;
 
-// A number in decimal.
-fn put_digits(out: &mut [u8], at: usize, n: u64) -> usize
-    requires { at + length (decimal n) ≤ length out.old }
-    ensures { Puts out.old at (decimal n) result out.new }
+// A number in decimal, with its minus.
+fn push_number<I: Integer>(text: &mut Text, n: I)
+    requires { array_string_len text.old + I.MAX_STR_LEN ≤ 96 }
+    ensures text { text.new.bytes ≡ text.old.bytes ++ I.text n }
+    ensures short { array_string_len text.new ≤ array_string_len text.old + I.MAX_STR_LEN }
 {
-    if n < 10 {
-        return put(out, at, &[48 + n as u8]);
-    }
-    let last = put_digits(out, at, n / 10);
-    put(out, last, &[48 + (n % 10) as u8])
-}
-
-// The same in the room that any number has.
-fn put_number(out: &mut [u8], at: usize, n: u64) -> usize
-    requires { at + 20 ≤ length out.old }
-    ensures puts { Puts out.old at (decimal n) result out.new }
-    ensures end { result ≤ at + 20 }
-{
-    put_digits(out, at, n)
-}
-
-// A level, with its minus.
-fn put_level(out: &mut [u8], at: usize, level: i8) -> usize
-    requires { at + 4 ≤ length out.old }
-    ensures puts { Puts out.old at (signed_decimal level) result out.new }
-    ensures end { result ≤ at + 4 }
-{
-    let digits = level.unsigned_abs() as u64;
-    if level < 0 {
-        let next = put(out, at, b"-");
-        put_digits(out, next, digits)
-    } else {
-        put_digits(out, at, digits)
-    }
+    text.push_str(Buffer::new().format(n));
 }
 
 // The level of a position.
-fn level(position: u8) -> i8
-    ensures { result ≡ npc.level position }
+fn push_level(text: &mut Text, position: u8)
+    requires { array_string_len text.old ≤ 90 }
+    ensures text { text.new.bytes ≡ text.old.bytes ++ signed_decimal (npc.level position) }
+    ensures short { array_string_len text.new ≤ array_string_len text.old + 4 }
 {
-    Stepped::npc().level(position)
+    push_number(text, Stepped::npc().level(position));
 }
 
-fn put_levels(out: &mut [u8], a: i8, b: i8, c: i8) -> usize
-    requires { 96 ≤ length out.old }
-    ensures puts { Puts out.old 0 (levels_text a b c) result out.new }
-    ensures end { result ≤ 17 }
+// The levels of a plan's first stage.
+fn push_levels(text: &mut Text, plan: &Reading<u64>)
+    requires { array_string_len text.old ≤ 70 }
+    ensures text { text.new.bytes ≡ text.old.bytes ++ levels_text (level_of plan.now 0) (level_of plan.now 1) (level_of plan.now 2) }
+    ensures short { array_string_len text.new ≤ array_string_len text.old + 17 }
 {
-    let p1 = put(out, 0, b"ok ");
-    let p2 = put_level(out, p1, a);
-    let p3 = put(out, p2, b" ");
-    let p4 = put_level(out, p3, b);
-    let p5 = put(out, p4, b" ");
-    put_level(out, p5, c)
+    text.push_str("ok ");
+    push_level(text, plan.entries[0]);
+    text.push_str(" ");
+    push_level(text, plan.entries[1]);
+    text.push_str(" ");
+    push_level(text, plan.entries[2]);
 }
 
-fn mark_bytes(mark: Mark) -> &'static [u8]
+fn mark_text(mark: Mark) -> &'static str
     ensures is { result.now ≡ mark_word mark }
     ensures short { length result.now ≤ 9 }
 {
     match mark {
-        Mark::Certified => b"certified",
-        Mark::Stopped => b"stopped",
+        Mark::Certified => "certified",
+        Mark::Stopped => "stopped",
     }
 }
 
-fn put_search(out: &mut [u8], at: usize, cost: u64, nodes: u32, mark: Mark) -> usize
-    requires { at + 64 ≤ length out.old }
-    ensures puts { Puts out.old at (search_text cost nodes mark) result out.new }
-    ensures end { result ≤ at + 64 }
+// What the search for a plan came to.
+fn push_search(text: &mut Text, cost: u64, nodes: u32, mark: Mark)
+    requires { array_string_len text.old ≤ 30 }
+    ensures { text.new.bytes ≡ text.old.bytes ++ search_text cost nodes mark }
 {
-    let p1 = put(out, at, b" cost ");
-    let p2 = put_number(out, p1, cost);
-    let p3 = put(out, p2, b" nodes ");
-    let p4 = put_number(out, p3, nodes as u64);
-    let p5 = put(out, p4, b" ");
-    let p6 = put(out, p5, mark_bytes(mark));
-    put(out, p6, b"\n")
+    text.push_str(" cost ");
+    push_number(text, cost);
+    text.push_str(" nodes ");
+    push_number(text, nodes);
+    text.push_str(" ");
+    text.push_str(mark_text(mark));
+    text.push_str("\n");
+}
+
+fn plan_text(plan: &Reading<u64>) -> Text
+    ensures { result.bytes ≡ reply_text (Planned plan.now) }
+{
+    let mut text = Text::new();
+    push_levels(&mut text, plan);
+    push_search(&mut text, plan.cost, plan.count, plan.mark);
+    text
 }
 
 // A refusal, as one line.
-fn put_fault(out: &mut [u8], fault: Fault) -> usize
-    requires { 96 ≤ length out.old }
-    ensures puts { Puts out.old 0 (refusal_line fault ++ codes "\n") result out.new }
-    ensures end { result ≤ 96 }
+fn fault_text(fault: Fault) -> Text
+    ensures { result.bytes ≡ refusal_line fault ++ codes "\n" }
 {
-    let p1 = put(out, 0, b"no ");
-    let p2 = put(out, p1, fault.layer.word().as_bytes());
-    let p3 = put(out, p2, b" ");
-    let p4 = put_number(out, p3, fault.number as u64);
-    let p5 = put(out, p4, b" ");
-    let p6 = put_number(out, p5, fault.place as u64);
-    put(out, p6, b"\n")
+    let mut text = Text::new();
+    text.push_str("no ");
+    text.push_str(fault.layer().word());
+    text.push_str(" ");
+    push_number(&mut text, fault.number());
+    text.push_str(" ");
+    push_number(&mut text, fault.place);
+    text.push_str("\n");
+    text
 }
 
-fn put_plan(out: &mut [u8], plan: &Reading<u64>) -> usize
-    requires { 96 ≤ length out.old }
-    ensures puts { Puts out.old 0 (reply_text (Planned plan.now)) result out.new }
-    ensures end { result ≤ 96 }
+fn done_text() -> Text
+    ensures { result.bytes ≡ codes "ok\n" }
 {
-    let a = level(plan.entries[0]);
-    let b = level(plan.entries[1]);
-    let c = level(plan.entries[2]);
-    let at = put_levels(out, a, b, c);
-    put_search(out, at, plan.cost, plan.count, plan.mark)
+    let mut text = Text::new();
+    text.push_str("ok\n");
+    text
 }
 
 // What a line came to, as the text that is printed.
+fn answer_text(answer: &Result<Answer, Fault>) -> Text
+    ensures { result.bytes ≡ answer_text answer.now }
+{
+    match answer {
+        Ok(Answer::Nothing) => Text::new(),
+        Ok(Answer::Done) => done_text(),
+        Ok(Answer::Planned(plan)) => plan_text(plan),
+        Err(fault) => fault_text(*fault),
+    }
+}
+
+// Writes what a line came to in front of a buffer, and gives the end of it.
 pub(crate) fn put_answer(out: &mut [u8], answer: &Result<Answer, Fault>) -> usize
     requires { 96 ≤ length out.old }
     ensures puts { Puts out.old 0 (answer_text answer.now) result out.new }
     ensures end { result ≤ 96 }
 {
-    match answer {
-        Ok(Answer::Nothing) => 0,
-        Ok(Answer::Done) => put(out, 0, b"ok\n"),
-        Ok(Answer::Planned(plan)) => put_plan(out, plan),
-        Err(fault) => put_fault(out, *fault),
-    }
+    let text = answer_text(answer);
+    let end = text.len();
+    out[..end].copy_from_slice(text.as_str().as_bytes());
+    end
 }

@@ -1,17 +1,16 @@
 // What a line asks for.
 ghost use Rattle.std.specs.Prelude.{◌≡◌, ℕ, ◌+◌, ◌-◌, ◌≤◌, length, pos, slice_index_or};
-ghost use Rattle.std.specs.Str.{bytes_eq};
+ghost use Rattle.arrayvec.specs.ArrayVec.{array_vec_len};
 ghost use Rattle.fault.specs.Refusals.{Answers, first_some};
 ghost use Rattle.console.specs.Lines.{arguments_refusal, asked, asks, command_refusal, commanded, count_refusal, left_over, line_refusal, named_phase, numbers_refusal, values, verb as verb_of};
-ghost use Rattle.console.specs.Requests.{Means, MeansMaybe, NumbersRead, values_of};
+ghost use Rattle.console.specs.Requests.{Means, MeansMaybe, NumbersRead};
 ghost use Rattle.console.specs.Tokens.{end_column, left};
 ghost use Rattle.console.specs.Words.{words as words_of};
 ghost use Rattle.console.specs.declared.requests.Verb.TheVariants.{Limit as LimitVerb, Bar as BarVerb, Step as StepVerb};
 
-use crate::numbers::Numbers;
-use crate::refusal::console_fault;
 use crate::words::{Token, Words, phase};
-use fault::Fault;
+use arrayvec::ArrayVec;
+use fault::{Fault, Rule};
 
 // The most bytes that a line may have.
 const LONGEST_LINE: usize = 120;
@@ -27,42 +26,38 @@ pub(crate) enum Verb {
     Try,
 }
 
-// What a line asks for. A step is fired, and a try is withdrawn.
+// The numbers of a plan: its two currents, and two references for each of at most five stages.
+pub(crate) type Numbers = ArrayVec<i32, 12>;
+
+// How a plan's order is spent.
 #[derive(Clone, Copy)]
+pub(crate) enum Spend {
+    Fire,
+    Withdraw,
+}
+
+// What a line asks for.
+#[derive(Drop)]
 pub(crate) enum Request {
     Load,
     Limit(i32),
     Bar(u8),
     Free(u8),
-    Step(Numbers),
-    Try(Numbers),
-}
-
-// Whether two texts are the same.
-fn is(word: &[u8], name: &[u8]) -> bool
-    ensures { result ≡ bytes_eq word.now name.now }
-{
-    word == name
+    Plan(Numbers, Spend),
 }
 
 // The command that a word names, if it names one.
 fn named_verb(word: &[u8]) -> Option<Verb>
     ensures { result ≡ verb_of word.now }
 {
-    if is(word, b"LOAD") {
-        Some(Verb::Load)
-    } else if is(word, b"LIMIT") {
-        Some(Verb::Limit)
-    } else if is(word, b"BAR") {
-        Some(Verb::Bar)
-    } else if is(word, b"FREE") {
-        Some(Verb::Free)
-    } else if is(word, b"STEP") {
-        Some(Verb::Step)
-    } else if is(word, b"TRY") {
-        Some(Verb::Try)
-    } else {
-        None
+    match word {
+        b"LOAD" => Some(Verb::Load),
+        b"LIMIT" => Some(Verb::Limit),
+        b"BAR" => Some(Verb::Bar),
+        b"FREE" => Some(Verb::Free),
+        b"STEP" => Some(Verb::Step),
+        b"TRY" => Some(Verb::Try),
+        _ => None,
     }
 }
 
@@ -72,8 +67,8 @@ fn ended(words: &mut Words) -> Result<(), Fault>
 {
     match words.next() {
         Token::End { .. } => Ok(()),
-        Token::Number { column, .. } => Err(console_fault(44, column)),
-        Token::Name { column, .. } => Err(console_fault(44, column)),
+        Token::Number { column, .. } => Err(Rule::WordCount.at(column)),
+        Token::Name { column, .. } => Err(Rule::WordCount.at(column)),
     }
 }
 
@@ -82,30 +77,26 @@ fn numbers(words: &mut Words, most: usize) -> Result<Numbers, Fault>
     requires { most ≤ 12 }
     ensures { Answers (numbers_refusal most (left words.old)) (λ n. NumbersRead most words.old n words.new) result }
 {
-    let mut values = [0i32; 12];
-    let mut count: usize = 0;
-    while count < most {
+    let mut found = Numbers::new();
+    for _i in 0..most {
         match words.next() {
-            Token::Number { value, .. } => {
-                values[count] = value;
-                count += 1;
-            }
-            Token::Name { column, .. } => return Err(console_fault(43, column)),
+            Token::Number { value, .. } => found.push(value),
+            Token::Name { column, .. } => return Err(Rule::NumberWord.at(column)),
             Token::End { .. } => break,
         }
     }
-    Ok(Numbers { values, count })
+    Ok(found)
 }
 
 // The numbers behind a command, and nothing else: at least so many, and at most so many.
 fn counted(words: &mut Words, least: usize, most: usize) -> Result<Numbers, Fault>
     requires order { least ≤ most }
     requires few { most ≤ 12 }
-    ensures { Answers (first_some (numbers_refusal most (left words.old)) (count_refusal least most (end_column words.old) (left words.old))) (λ n. (least ≤ n.count) × (values_of n ≡ values (left words.old))) result }
+    ensures { Answers (first_some (numbers_refusal most (left words.old)) (count_refusal least most (end_column words.old) (left words.old))) (λ n. (least ≤ array_vec_len n) × (n.items ≡ values (left words.old))) result }
 {
     let found = numbers(words, most)?;
-    if found.count < least {
-        return Err(console_fault(44, words.end_column()));
+    if found.len() < least {
+        return Err(Rule::WordCount.at(words.end_column()));
     }
     ended(words)?;
     Ok(found)
@@ -116,7 +107,7 @@ fn one_number(words: &mut Words) -> Result<i32, Fault>
     ensures { Answers (arguments_refusal LimitVerb (end_column words.old) (left words.old)) (λ z. z ≡ slice_index_or (values (left words.old)) 0 (pos 0)) result }
 {
     let found = counted(words, 1, 1)?;
-    Ok(found.values[0])
+    Ok(found[0])
 }
 
 // The phase behind a command.
@@ -124,12 +115,11 @@ fn one_phase(words: &mut Words) -> Result<u8, Fault>
     ensures { Answers (arguments_refusal BarVerb (end_column words.old) (left words.old)) (λ p. p ≡ named_phase (left words.old)) result }
 {
     let (column, bytes) = match words.next() {
-        Token::End { column } => return Err(console_fault(44, column)),
-        Token::Number { column, bytes, .. } => (column, bytes),
-        Token::Name { column, bytes } => (column, bytes),
+        Token::End { column } => return Err(Rule::WordCount.at(column)),
+        Token::Number { column, bytes, .. } | Token::Name { column, bytes } => (column, bytes),
     };
     let Some(p) = phase(bytes) else {
-        return Err(console_fault(42, column));
+        return Err(Rule::PhaseLetter.at(column));
     };
     ended(words)?;
     Ok(p)
@@ -147,8 +137,8 @@ fn with_arguments(verb: Verb, words: &mut Words) -> Result<Request, Fault>
         Verb::Limit => Ok(Request::Limit(one_number(words)?)),
         Verb::Bar => Ok(Request::Bar(one_phase(words)?)),
         Verb::Free => Ok(Request::Free(one_phase(words)?)),
-        Verb::Step => Ok(Request::Step(counted(words, 2, 12)?)),
-        Verb::Try => Ok(Request::Try(counted(words, 2, 12)?)),
+        Verb::Step => Ok(Request::Plan(counted(words, 2, 12)?, Spend::Fire)),
+        Verb::Try => Ok(Request::Plan(counted(words, 2, 12)?, Spend::Withdraw)),
     }
 }
 
@@ -157,7 +147,7 @@ fn commanded_by(column: usize, word: &[u8], words: &mut Words) -> Result<Option<
     ensures { Answers (command_refusal (verb_of word.now) column (end_column words.old) (left words.old)) (λ q. MeansMaybe q (commanded (verb_of word.now) (left words.old))) result }
 {
     let Some(verb) = named_verb(word) else {
-        return Err(console_fault(41, column));
+        return Err(Rule::CommandWord.at(column));
     };
     Ok(Some(with_arguments(verb, words)?))
 }
@@ -167,7 +157,7 @@ pub(crate) fn requested(line: &[u8]) -> Result<Option<Request>, Fault>
     ensures { Answers (line_refusal line.now) (λ q. MeansMaybe q (asked (words_of line.now))) result }
 {
     if line.len() > LONGEST_LINE {
-        return Err(console_fault(46, LONGEST_LINE + 1));
+        return Err(Rule::LineLength.at(LONGEST_LINE + 1));
     }
     let mut words = Words::new(line);
     match words.next() {

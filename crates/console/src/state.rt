@@ -1,12 +1,11 @@
 // What a console holds.
-ghost use Rattle.std.specs.Prelude.{◌≡◌, true, false};
-ghost use Rattle.controller.specs.View.{book_of};
-ghost use Rattle.console.specs.Standing.{standing};
+ghost use Rattle.std.specs.Prelude.{◌≡◌, false};
 
 use controller::state::Controller;
 use legs::squared::Squared;
 use legs::stepped::Stepped;
 
+mod calls;
 mod methods;
 
 // A controller of three NPC legs.
@@ -23,5 +22,4 @@ pub struct Console<'a> {
     ghost leg_a: { (controller.legs.a.below.reach ≡ 1) × (controller.legs.a.below.stride ≡ 1) },
     ghost leg_b: { (controller.legs.b.below.reach ≡ 1) × (controller.legs.b.below.stride ≡ 1) },
     ghost leg_c: { (controller.legs.c.below.reach ≡ 1) × (controller.legs.c.below.stride ≡ 1) },
-    ghost stands: { standing (book_of controller) ≡ true },
 }

@@ -1,5 +1,4 @@
 pub mod Bars
-pub mod Stages
 pub mod Padding
 pub mod Generators
 pub mod Posing

@@ -1,7 +1,7 @@
 -- Arrays that are filled from their front.
-use Rattle.std.proofs.Common.{◌≡◌, ℕ, ◌-◌, ◌<◌, ◌≤◌, List, map, length, get_or, replicate, ℤ, pos, nat_abs, sym, refl, ap, ◌∙◌, ⊎_elim, zero-le, arith, length-append}
+use Rattle.std.proofs.Common.{◌≡◌, ℕ, ◌-◌, ◌<◌, ◌≤◌, List, map, length, get_or, replicate, ℤ, pos, nat_abs, sym, refl, ◌∙◌, ⊎_elim, zero-le, arith, length-append}
 use Rattle.std.specs.List.{range_with_len}
-use Rattle.std.proofs.lemmas.List.FromFn.{fill_by_all, get_or-map-range_with_len, length-map-range_with_len}
+use Rattle.std.proofs.lemmas.List.FromFn.{get_or-map-range_with_len, length-map-range_with_len}
 use Rattle.std.proofs.lemmas.List.{ext_get_or, get_or_append_left, get_or-append_right, get_or_past, get_or-replicate, length-replicate}
 use Rattle.std.proofs.str.Laws.{order}
 use Rattle.period.specs.Sums.{Filled}
@@ -37,8 +37,3 @@ filled_padded size n f xs few p =
     ⊎_elim (λ (l : k < n). p.value k l ∙ sym (padded_inside size ys k (omega arith) ∙ get_or-map-range_with_len f 0 n k k (pos 0) l (omega arith)))
     (λ (l : n ≤ k). p.rest k l ∙ sym (padded_past size ys k (omega arith)))
     (order k n))
-
-pub filled_list : (size : ℕ) (ys xs : List ℤ) (n : ℕ) → n ≡ length ys → n ≤ size → Filled size n (λ k. get_or ys k (pos 0)) xs → xs ≡ padded size ys
-filled_list size ys xs n long few p =
-    filled_padded size n (λ k. get_or ys k (pos 0)) xs few p
-    ∙ ap (padded size) (sym (fill_by_all (λ k. get_or ys k (pos 0)) ys n (pos 0) (sym long) (λ k h. refl)))

@@ -19,7 +19,8 @@ use Rattle.period.specs.declared.Period.{Period}
 use Rattle.controller.specs.Law.{FullLength, Kept, PlanKept, Stands}
 use Rattle.controller.specs.Logbook.{Logbook, entries_read, plan_refusal}
 use Rattle.controller.specs.Problems.{Setup, barred_legs, generator, period_given, problem}
-use Rattle.controller.specs.View.{entries_in, reading_of}
+use Rattle.controller.specs.Book.{entries_in}
+use Rattle.controller.specs.View.{reading_of}
 use Rattle.controller.specs.declared.calls.Reading.{Reading}
 use Rattle.controller.specs.declared.calls.Reply.TheVariants.{Planned}
 use Rattle.controller.specs.declared.sequence.Plan.{Plan}
@@ -87,9 +88,9 @@ module _ {K : Type 0} (s : Setup K) (b : Logbook) (d : TableData) (currents refe
       }
 
   -- a plan that nothing stood against
-  pub plan_granted : (o : Option TableData) (p : Plan K) → o ≡ Some d → inputs_refusal d.horizon currents references ≡ None → (Stands s b → Kept s b d currents references (reading_of p)) → Answers (plan_refusal o currents references) (λ (q : Plan K). Stands s b → PlanKept s b o currents references (Planned (reading_of q))) (Ok p)
-  plan_granted None p e none k = absurd (let z : ◌≡◌ {A = ℕ} 0 1 = cc in omega arith)
+  pub plan_granted : (o : Option TableData) (p : Plan K) → o ≡ Some d → inputs_refusal d.horizon currents references ≡ None → Kept s b d currents references (reading_of p) → Answers (plan_refusal o currents references) (λ (q : Plan K). PlanKept s b o currents references (Planned (reading_of q))) (Ok p)
+  plan_granted None p e none k = cc
   plan_granted (Some d') p e none k =
       let same : d ≡ d' = cc in
-      subst (λ (z : TableData). Answers (plan_refusal (Some z) currents references) (λ (q : Plan K). Stands s b → PlanKept s b (Some z) currents references (Planned (reading_of q))) (Ok p)) same
+      subst (λ (z : TableData). Answers (plan_refusal (Some z) currents references) (λ (q : Plan K). PlanKept s b (Some z) currents references (Planned (reading_of q))) (Ok p)) same
       (rw none k)

@@ -1,4 +1,5 @@
 pub mod Logbook
 pub mod Problems
 pub mod Law
+pub mod Book
 pub mod View

@@ -3,13 +3,15 @@ use Rattle.std.specs.Prelude.{ℕ, Bool, true, false, not, ◌&&◌, List, [], �
 use Rattle.fault.specs.Refusals.{first_some, unless}
 use Rattle.fault.specs.declared.Fault.{Fault}
 use Rattle.file.specs.File.{TableData, file_refusal, tables_of}
-use Rattle.period.specs.Inputs.{controller_fault, inputs_refusal}
+use Rattle.period.specs.Inputs.{inputs_refusal}
 use Rattle.controller.specs.declared.calls.Call.{Call}
 use Rattle.controller.specs.declared.calls.Call.TheVariants.{Load, Limit, Bar, Free, Plan, Fire, Withdraw}
 use Rattle.controller.specs.declared.calls.Event.{Event}
 use Rattle.controller.specs.declared.calls.Reading.{Reading}
 use Rattle.controller.specs.declared.calls.Reply.{Reply}
 use Rattle.controller.specs.declared.calls.Reply.TheVariants.{Granted, Planned, Denied}
+use Rattle.fault.specs.Rules.{refused}
+use Rattle.fault.specs.declared.rule.Rule.TheVariants.{NoOpenOrder, LoadedTables, NodeLimit, PhaseNumber, OwnOrder, OpenOrder}
 
 pub record Logbook : Type 0 where
   -- the position of each phase
@@ -78,24 +80,24 @@ logbook b (e ∷ es) = logbook (step b e.call e.reply) es
 
 -- 21: an order is open
 abbrev pub open_refusal : Bool → Option Fault
-open_refusal pending = unless (not pending) (controller_fault 21 0)
+open_refusal pending = unless (not pending) (refused NoOpenOrder 0)
 
 -- 22: there are no tables; then what is wrong with currents and references
 abbrev pub plan_refusal : Option TableData → List ℤ → List ℤ → Option Fault
-plan_refusal None currents references = Some (controller_fault 22 0)
+plan_refusal None currents references = Some (refused LoadedTables 0)
 plan_refusal (Some d) currents references = inputs_refusal d.horizon currents references
 
 -- 23: not 1 to 100,000 nodes
 abbrev pub limit_refusal : ℕ → Option Fault
-limit_refusal n = unless (nat_le 1 n && nat_le n 100000) (controller_fault 23 0)
+limit_refusal n = unless (nat_le 1 n && nat_le n 100000) (refused NodeLimit 0)
 
 -- 24: not one of the phases 0, 1 and 2
 abbrev pub phase_refusal : ℕ → Option Fault
-phase_refusal p = unless (nat_lt p 3) (controller_fault 24 0)
+phase_refusal p = unless (nat_lt p 3) (refused PhaseNumber 0)
 
 -- 27: the order bears another identity than the controller's own; 28: no order is open
 abbrev pub order_refusal : ℕ → Bool → ℕ → Option Fault
-order_refusal id pending o = first_some (unless (o == id) (controller_fault 27 0)) (unless pending (controller_fault 28 0))
+order_refusal id pending o = first_some (unless (o == id) (refused OwnOrder 0)) (unless pending (refused OpenOrder 0))
 
 -- the refusal that a controller of this identity and logbook owes to a call, if any
 abbrev pub refusal : ℕ → Logbook → Call → Option Fault

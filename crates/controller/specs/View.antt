@@ -1,17 +1,15 @@
 -- A controller by its logbook, and what its calls promise.
-use Rattle.std.specs.Prelude.{◌≡◌, ℕ, ◌-◌, Bool, true, cond, ◌&&◌, List, [], ◌∷◌, take, Some, None, Ok, Err, Option, Result, nat_le, slice_index}
+use Rattle.std.specs.Prelude.{◌≡◌, ℕ, ◌-◌, Bool, true, cond, ◌&&◌, Some, None, Ok, Err, Option, Result, nat_le, slice_index}
 use Rattle.std.specs.Option.{option_map}
 use Rattle.fault.specs.declared.Fault.{Fault}
 use Rattle.legs.specs.Measure.{MeasureModel}
 use Rattle.legs.specs.Model.{LegModel}
-use Rattle.legs.specs.declared.barred.Barred.{Barred}
 use Rattle.legs.specs.declared.leg.Leg.{Ghosts as LegGhosts}
 use Rattle.legs.specs.declared.measure.Measure.{Ghosts as MeasureGhosts}
-use Rattle.legs.specs.declared.phases.Legs.{Legs}
-use Rattle.file.specs.Tables.{data_of}
 use Rattle.controller.specs.Logbook.{Logbook, refusal, step}
 use Rattle.controller.specs.Problems.{Setup, built}
-use Rattle.controller.specs.Law.{Answered, Stands}
+use Rattle.controller.specs.Book.{book}
+use Rattle.controller.specs.Law.{Answered}
 use Rattle.controller.specs.declared.calls.Call.{Call}
 use Rattle.controller.specs.declared.calls.Call.TheVariants.{Load, Limit, Bar, Free, Plan as PlanCall, Fire, Withdraw}
 use Rattle.controller.specs.declared.calls.Reading.{Reading}
@@ -20,20 +18,8 @@ use Rattle.controller.specs.declared.calls.Reply.TheVariants.{Granted, Planned, 
 use Rattle.controller.specs.declared.order.Denied.{Denied as TurnedDown}
 use Rattle.controller.specs.declared.order.Order.{Order}
 use Rattle.controller.specs.declared.sequence.Plan.{Plan}
-use Rattle.controller.specs.declared.sequence.Sequence.{Sequence}
 use Rattle.controller.specs.declared.state.Controller.{Controller}
 use Rattle.controller.specs.declared.state.Settings.{Settings}
-
--- the entries that count
-abbrev pub entries_in : Sequence → List ℕ
-entries_in q = take q.len q.entries
-
-abbrev pub plan_entries : {K : Type 0} → Plan K → List ℕ
-plan_entries p = entries_in p.sequence
-
--- the bars of three legs
-abbrev pub bars_of : {A B C : Type 0} → Legs (Barred A) (Barred B) (Barred C) → List Bool
-bars_of legs = legs.a.bar ∷ (legs.b.bar ∷ (legs.c.bar ∷ []))
 
 -- a plan, as its readings show it
 abbrev pub reading_of : {K : Type 0} → Plan K → Reading K
@@ -99,6 +85,13 @@ abbrev pub HandsBack : {X : Type 0} → Order → Result X TurnedDown → Type 0
 HandsBack o (Ok x) = Unit {0}
 HandsBack o (Err d) = d.order ≡ o
 
+-- an order is taken where it owes no refusal, and else handed back with it
+abbrev pub Redeems : {X : Type 0} → Option Fault → Order → Result X TurnedDown → Type 0
+Redeems None o (Ok x) = Unit {0}
+Redeems None o (Err d) = ⊥
+Redeems (Some f) o (Ok x) = ⊥
+Redeems (Some f) o (Err d) = (d.fault ≡ f) × (d.order ≡ o)
+
 -- a granted plan opens an order of its controller
 abbrev pub Bears : ℕ → Bool → Result Order Fault → Type 0
 Bears id pending (Ok o) = (o.identity ≡ id) × (pending ≡ true)
@@ -107,15 +100,7 @@ Bears id pending (Err f) = Unit {0}
 module _ {M A B C K : Type 0} {ghosts_m : MeasureGhosts M K} {ghosts_a : LegGhosts A} {ghosts_b : LegGhosts B} {ghosts_c : LegGhosts C} where
   -- what a controller knows, as a logbook
   abbrev pub book_of : Controller M A B C K ghosts_m ghosts_a ghosts_b ghosts_c → Logbook
-  book_of c = record {
-    applied = c.applied;
-    bars = bars_of c.legs;
-    limit = c.limit;
-    tables = option_map data_of c.tables;
-    plan = option_map plan_entries c.plan;
-    remembered = option_map entries_in c.remembered;
-    pending = c.pending;
-  }
+  book_of c = book c.legs c.tables c.limit c.applied c.remembered c.plan c.pending
 
   -- what of a logbook its settings show
   abbrev pub settings_of : Controller M A B C K ghosts_m ghosts_a ghosts_b ghosts_c → Settings
@@ -147,10 +132,10 @@ module _ {M A B C K : Type 0} {ghosts_m : MeasureGhosts M K} {ghosts_a : LegGhos
     pub untouched : Untouched r c d
     pub same : Same c d
 
-  -- a plan: when it is denied, what it answers from a logbook that stands, and what it leaves behind
+  -- a plan: when it is denied, what it answers, and what it leaves behind
   pub record Plans (s : Setup K) (c : Controller M A B C K ghosts_m ghosts_a ghosts_b ghosts_c) (call : Call) (r : Reply K) (d : Controller M A B C K ghosts_m ghosts_a ghosts_b ghosts_c) : Type 0 where
     pub owed : denial r ≡ refusal c.identity (book_of c) call
-    pub answers : Stands s (book_of c) → Answered s c.identity (book_of c) call r
+    pub answers : Answered s c.identity (book_of c) call r
     pub after : book_of d ≡ step (book_of c) call r
     pub untouched : Untouched r c d
     pub same : Same c d

@@ -4,6 +4,5 @@
 
 pub mod calls;
 pub mod order;
-mod refusal;
 mod sequence;
 pub mod state;

@@ -5,6 +5,7 @@ use fault::Fault;
 
 // The right to apply a plan's first stage. It bears the identity of the controller that made the plan.
 // It is not `Drop`: a program has to spend it, on `fire` or on `withdraw`, and can do so once only.
+#[derive(Debug)]
 pub struct Order {
     pub(crate) identity: u16,
 }
@@ -19,6 +20,7 @@ impl Order {
 }
 
 // An order that was turned down, with the reason. The order is as good as before.
+#[derive(Debug)]
 pub struct Denied {
     pub fault: Fault,
     pub order: Order,

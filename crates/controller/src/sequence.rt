@@ -1,9 +1,10 @@
 // A sequence of positions that a plan has, or that is remembered.
-ghost use Rattle.std.specs.Prelude.{◌≡◌, ◌≤◌, length};
+ghost use Rattle.std.specs.Prelude.{◌≡◌, ◌*◌, ◌≤◌, length};
 
+use crate::calls::Reading;
 use decoder::Mark;
 
-// Of the entries the first `len` count.
+// Of the entries the first `len` count. An array and a length: the control path has no heap.
 #[derive(Clone, Copy)]
 pub(crate) struct Sequence {
     pub(crate) entries: [u8; 15],
@@ -20,4 +21,54 @@ pub(crate) struct Plan<K> {
     pub(crate) cost: K,
     pub(crate) count: u32,
     pub(crate) mark: Mark,
+}
+
+impl Sequence {
+    ghost use Rattle.controller.specs.Book.{entries_in};
+    ghost use Rattle.std.specs.Prelude.{take};
+
+    // The part of an array that a horizon of some stages fills.
+    pub(crate) fn new(entries: [u8; 15], stages: u8) -> Sequence
+        requires some { 1 ≤ stages }
+        requires few { stages ≤ 5 }
+        ensures entries { result.entries ≡ entries }
+        ensures len { result.len ≡ 3 * stages }
+    {
+        Sequence {
+            entries,
+            len: 3 * stages as usize,
+        }
+    }
+
+    // The entries that count.
+    pub(crate) fn as_slice(&self) -> &[u8]
+        ensures { result.now ≡ entries_in self.now }
+    {
+        &self.entries[..self.len]
+    }
+
+    // The positions of the first stage.
+    pub(crate) fn first_stage(&self) -> [u8; 3]
+        ensures { result ≡ take 3 (entries_in self.now) }
+    {
+        let [a, b, c, ..] = self.entries;
+        [a, b, c]
+    }
+}
+
+impl<K: Copy> Plan<K> {
+    ghost use Rattle.controller.specs.View.{reading_of};
+
+    // The plan, as its readings show it.
+    pub(crate) fn reading(&self) -> Reading<K>
+        ensures { result ≡ reading_of self.now }
+    {
+        Reading {
+            entries: self.sequence.entries,
+            len: self.sequence.len,
+            cost: self.cost,
+            count: self.count,
+            mark: self.mark,
+        }
+    }
 }

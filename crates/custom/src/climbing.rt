@@ -5,7 +5,7 @@ ghost use Rattle.std.proofs.Common.{rules};
 use legs::leg::Leg;
 
 // Three levels, climbed one at a time and dropped from at once.
-#[derive(Clone, Copy)]
+#[derive(Clone, Copy, PartialEq, Eq, Debug, Default)]
 pub struct Climbing;
 
 impl Leg for Climbing {

@@ -10,7 +10,7 @@ use legs::measure::Measure;
 use std::cmp::Ordering;
 
 // The sum of what the differences exceed `width` by.
-#[derive(Clone, Copy)]
+#[derive(Clone, Copy, PartialEq, Eq, Debug)]
 pub struct DeadBand {
     pub width: u32,
 }
@@ -29,7 +29,9 @@ impl Measure for DeadBand {
     }
 
     fn after(&self, cost: u32, difference: i64) -> u32 {
-        let excess = difference.unsigned_abs().saturating_sub(self.width as u64);
+        let excess = difference
+            .unsigned_abs()
+            .saturating_sub(u64::from(self.width));
         cost.wrapping_add(excess as u32)
     }
 

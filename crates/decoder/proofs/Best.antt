@@ -5,14 +5,13 @@ use mathlib.Core.List.{Memᴰ}
 use Rattle.decoder.specs.Answers.{marked}
 use Rattle.decoder.proofs.Tree.{backward}
 use Rattle.decoder.specs.declared.Mark.TheVariants.{Certified}
-use Rattle.std.specs.List.{range_with_len, flat_map, AllByRecursion}
+use Rattle.std.specs.List.{range_with_len, flat_map, AllByRecursion, list_all}
 use Rattle.std.proofs.lemmas.List.Elements.{filter-append}
 use Rattle.std.proofs.ByRecursion.{All-append, All-map, All-weaker}
 use Rattle.std.proofs.lemmas.List.{take_all, take_more, reverse-append}
 use Rattle.std.proofs.lemmas.Bool.{eq-eqb, ne_eqb, cond_both, both_ways, cases_eq, and_parts, and_from, false≢true}
 use Rattle.decoder.proofs.Tree.{Rules, Lawful, moves, onto, fulls, pick, dues, answer, before, Permitted, Whole, Optimal, opens, Opens}
-use Rattle.decoder.specs.Limits.{every}
-use Rattle.decoder.proofs.Bools.{all_of, every_true, before_same, before_less}
+use Rattle.decoder.proofs.Bools.{all_of, all_true, before_same, before_less}
 use Rattle.decoder.proofs.Walk.{after, seen, visits, seen_dues, after_skip, fulls_of, Rising, rising_counting, leq_refl, length_onto, fulls_long, after_fit}
 use Rattle.decoder.proofs.Pend.{afters, after_suc, folded_append}
 
@@ -209,9 +208,9 @@ pub certain : (v : Bool) → marked v ≡ Certified → v ≡ true
 certain true e = refl
 certain false e = let z : ◌≡◌ {A = ℕ} 0 1 = cc in absurd (omega arith)
 
-every_all : {X : Type 0} (t : X → Bool) (xs : List X) → every t xs ≡ true → AllByRecursion (λ x. t x ≡ true) xs
-every_all t [] e = tt
-every_all t (x ∷ xs) e = let p = and_parts (t x) (every t xs) e in (p.0, every_all t xs p.1)
+all_each : {X : Type 0} (t : X → Bool) (xs : List X) → list_all t xs ≡ true → AllByRecursion (λ x. t x ≡ true) xs
+all_each t [] e = tt
+all_each t (x ∷ xs) e = let p = and_parts (t x) (list_all t xs) e in (p.0, all_each t xs p.1)
 
 imply : (a b : Bool) → (not a || b) ≡ true → a ≡ true → b ≡ true
 imply true b e h = e
@@ -225,8 +224,8 @@ unless false b h = refl
 pub opens_means : {C : Type 0} (R : Rules C) (n : ℕ) (b : C) (q : List ℕ) → opens R (fulls R n []) [] b q ≡ true → Opens R n b q
 opens_means R n b q e =
     let p = and_parts _ _ e in
-    (p.0, λ f w h. imply (before f q) _ (fulls_all R n [] (λ f. (not (before f q) || R.leq (R.cost (onto [] q)) (R.cost (onto [] f))) ≡ true) (every_all _ (fulls R n []) p.1) f w.0 w.1) h)
+    (p.0, λ f w h. imply (before f q) _ (fulls_all R n [] (λ f. (not (before f q) || R.leq (R.cost (onto [] q)) (R.cost (onto [] f))) ≡ true) (all_each _ (fulls R n []) p.1) f w.0 w.1) h)
 
 pub means_opens : {C : Type 0} (R : Rules C) (n : ℕ) (b : C) (q : List ℕ) → Opens R n b q → opens R (fulls R n []) [] b q ≡ true
 means_opens R n b q h =
-    and_from _ _ h.0 (every_true _ (fulls R n []) (All-weaker _ _ (λ f w. unless (before f q) _ (λ k. h.1 f w k)) (fulls R n []) (fulls_in R n [])))
+    and_from _ _ h.0 (all_true _ (fulls R n []) (All-weaker _ _ (λ f w. unless (before f q) _ (λ k. h.1 f w k)) (fulls R n []) (fulls_in R n [])))

@@ -1,26 +1,14 @@
 -- Tests on lists.
-use Rattle.std.proofs.Common.{◌≡◌, ℕ, ◌<◌, Bool, true, false, cond, ◌&&◌, ◌||◌, eqb, List, [], ◌∷◌, ◌++◌, map, filter, sym, refl, ap, ◌∙◌, arith}
-use Rattle.std.specs.List.{flat_map, AllByRecursion}
+use Rattle.std.proofs.Common.{◌≡◌, ℕ, ◌<◌, Bool, true, false, cond, ◌&&◌, ◌||◌, eqb, List, [], ◌∷◌, map, filter, sym, refl, ap, ◌∙◌, arith}
+use Rattle.std.specs.List.{flat_map, AllByRecursion, list_all}
 use Rattle.std.proofs.ByRecursion.{All-append}
+use Rattle.std.proofs.Math.Bool.{and-true, and-false}
 use Rattle.std.proofs.lemmas.Bool.{lt-ltb, le-ltb, eq-eqb, ne_eqb}
 use Rattle.decoder.proofs.Tree.{before}
-use Rattle.decoder.specs.Limits.{every}
-
-pub and_true : (a : Bool) → (a && true) ≡ a
-and_true true = refl
-and_true false = refl
-
-pub and_false : (a : Bool) → (a && false) ≡ false
-and_false true = refl
-and_false false = refl
-
-pub and_assoc : (a b c : Bool) → ((a && b) && c) ≡ (a && (b && c))
-and_assoc true b c = refl
-and_assoc false b c = refl
 
 pub absorb_left : (p q : Bool) → (p ≡ true → q ≡ true) → p ≡ (q && p)
-absorb_left true q h = sym (and_true q ∙ h refl)
-absorb_left false q h = sym (and_false q)
+absorb_left true q h = sym (and-true q ∙ h refl)
+absorb_left false q h = sym (and-false q)
 
 pub absorb_right : (p q : Bool) → (p ≡ true → q ≡ true) → p ≡ (p && q)
 absorb_right true q h = sym (h refl)
@@ -35,21 +23,13 @@ all_joined P Q f h [] a = tt
 all_joined P Q f h (x ∷ xs) a = All-append P (f x) (flat_map f xs) (h x a.0) (all_joined P Q f h xs a.1)
 
 module _ {X : Type 0} where
-  pub every_append : (t : X → Bool) (xs ys : List X) → every t (xs ++ ys) ≡ (every t xs && every t ys)
-  every_append t [] ys = refl
-  every_append t (x ∷ xs) ys = ap (λ v. t x && v) (every_append t xs ys) ∙ sym (and_assoc (t x) (every t xs) (every t ys))
+  pub all_ext : (t u : X → Bool) (xs : List X) → AllByRecursion (λ x. t x ≡ u x) xs → list_all t xs ≡ list_all u xs
+  all_ext t u [] a = refl
+  all_ext t u (x ∷ xs) a = ap (λ v. v && list_all t xs) a.0 ∙ ap (λ v. u x && v) (all_ext t u xs a.1)
 
-  pub every_map : {Y : Type 0} (t : X → Bool) (f : Y → X) (ys : List Y) → every t (map f ys) ≡ every (λ y. t (f y)) ys
-  every_map t f [] = refl
-  every_map t f (y ∷ ys) = ap (λ v. t (f y) && v) (every_map t f ys)
-
-  pub every_ext : (t u : X → Bool) (xs : List X) → AllByRecursion (λ x. t x ≡ u x) xs → every t xs ≡ every u xs
-  every_ext t u [] a = refl
-  every_ext t u (x ∷ xs) a = ap (λ v. v && every t xs) a.0 ∙ ap (λ v. u x && v) (every_ext t u xs a.1)
-
-  pub every_true : (t : X → Bool) (xs : List X) → AllByRecursion (λ x. t x ≡ true) xs → every t xs ≡ true
-  every_true t [] a = refl
-  every_true t (x ∷ xs) a = ap (λ v. v && every t xs) a.0 ∙ every_true t xs a.1
+  pub all_true : (t : X → Bool) (xs : List X) → AllByRecursion (λ x. t x ≡ true) xs → list_all t xs ≡ true
+  all_true t [] a = refl
+  all_true t (x ∷ xs) a = ap (λ v. v && list_all t xs) a.0 ∙ all_true t xs a.1
 
   pub kept_ext : (t u : X → Bool) (xs : List X) → AllByRecursion (λ x. t x ≡ u x) xs → filter t xs ≡ filter u xs
   kept_ext t u [] a = refl
@@ -59,10 +39,6 @@ module _ {X : Type 0} where
   kept_none t [] a = refl
   kept_none t (x ∷ xs) a = ap (λ v. cond v (x ∷ filter t xs) (filter t xs)) a.0 ∙ kept_none t xs a.1
 
-  pub map_cond : {Y : Type 0} (f : X → Y) (b : Bool) (xs ys : List X) → map f (cond b xs ys) ≡ cond b (map f xs) (map f ys)
-  map_cond f true xs ys = refl
-  map_cond f false xs ys = refl
-
   pub kept_map : {Y : Type 0} (t : X → Bool) (f : Y → X) (ys : List Y) → filter t (map f ys) ≡ map f (filter (λ y. t (f y)) ys)
   kept_map t f [] = refl
   kept_map t f (y ∷ ys) = ap (λ v. cond (t (f y)) (f y ∷ v) v) (kept_map t f ys) ∙ push (t (f y))
@@ -70,10 +46,6 @@ module _ {X : Type 0} where
       push : (b : Bool) → cond b (f y ∷ map f (filter (λ z. t (f z)) ys)) (map f (filter (λ z. t (f z)) ys)) ≡ map f (cond b (y ∷ filter (λ z. t (f z)) ys) (filter (λ z. t (f z)) ys))
       push true = refl
       push false = refl
-
-pub map_map : {X Y Z : Type 0} (f : X → Y) (g : Y → Z) (xs : List X) → map g (map f xs) ≡ map (λ x. g (f x)) xs
-map_map f g [] = refl
-map_map f g (x ∷ xs) = ap (λ v. g (f x) ∷ v) (map_map f g xs)
 
 pub before_same : (p : ℕ) (f t : List ℕ) → before (p ∷ f) (p ∷ t) ≡ before f t
 before_same p f t = ap (λ v. v || (eqb p p && before f t)) (le-ltb p p (omega arith)) ∙ ap (λ v. v && before f t) (eq-eqb p p refl)

@@ -7,10 +7,10 @@ use Rattle.std.proofs.lemmas.List.{take_all, drop_all, drop_more, reverse-revers
 use Rattle.std.proofs.lemmas.Bool.{cases_eq}
 use Rattle.legs.specs.Measure.{at_most}
 use Rattle.decoder.specs.Sequences as nat
-use Rattle.decoder.specs.Sequences.{Problem, leg_of, coupling, sum_below, MayBe, Feasible, precedes, Ascending, In, Before}
+use Rattle.decoder.specs.Sequences.{Problem, leg_of, coupling, sum_below, MayBe, Feasible, precedes, Ascending, In, Before, term}
 use Rattle.decoder.specs.Computed.{better, cheapest}
 use Rattle.decoder.proofs.Tree.{Rules, moves, onto, fulls, nodes, dues, due, answer, pick, before, Permitted, Whole, Opens, backward}
-use Rattle.decoder.proofs.Machine.{term, row_sum, sum_back, difference_back, previous, machine}
+use Rattle.decoder.proofs.Machine.{row_sum, sum_back, difference_back, previous, machine}
 use Rattle.decoder.proofs.Bools.{all_of, kept_map, kept_ext}
 use Rattle.decoder.proofs.Walk.{Rising, rising_counting, nodes_of}
 use Rattle.decoder.proofs.Steps.{length_backward, backward_more}

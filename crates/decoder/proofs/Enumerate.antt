@@ -1,19 +1,19 @@
 -- The enumeration of the due nodes gives the nodes that the search visits.
 use Rattle.std.proofs.Common.{◌≡◌, ℕ, zero, suc, ◌-◌, ◌<◌, ◌≤◌, not, ◌&&◌, ◌||◌, List, [], ◌∷◌, ◌++◌, map, length, take, filter, sym, refl, ap, ◌∙◌, subst, ap₂, append_assoc, arith}
 use mathlib.Core.List.{drop_last}
-use Rattle.std.specs.List.{range_with_len, flat_map}
+use Rattle.std.specs.List.{range_with_len, flat_map, list_all}
 use Rattle.std.proofs.ByRecursion.{All-weaker}
 use Rattle.std.proofs.lemmas.List.{append-nil, map-append, length-reverse, reverse-reverse}
 use Rattle.std.proofs.lemmas.Bool.{lt-leb}
+use Rattle.std.proofs.lemmas.Simd.{map-map}
 use Rattle.decoder.specs.Sequences as nat
 use Rattle.decoder.specs.Sequences.{Problem, leg_of, precedes}
 use Rattle.decoder.specs.Computed as lst
-use Rattle.decoder.specs.Limits.{every}
 use Rattle.decoder.specs.Theorems.{ListingStands}
 use Rattle.legs.specs.Measure.{at_most}
 use Rattle.decoder.proofs.Tree.{Rules, moves, onto, fulls, nodes, opens}
 use Rattle.decoder.proofs.Machine.{previous, machine}
-use Rattle.decoder.proofs.Bools.{kept_ext, map_map, every_ext}
+use Rattle.decoder.proofs.Bools.{kept_ext, all_ext}
 use Rattle.decoder.proofs.Best.{fulls_in}
 use Rattle.decoder.proofs.Bridge.{onto_back, previous_is, leq_onto, before_precedes, short, nodes_are, dues_are, one_list, due_or_not, walked}
 
@@ -54,7 +54,7 @@ module _ {C : Type 0} (P : Problem C) where
 
   -- an entry more behind the beginning, or before what follows it
   across : (p : ℕ) (s : List ℕ) (xs : List (List ℕ)) → map (λ f. onto [] (p ∷ s) ++ f) xs ≡ map (λ f. onto [] s ++ f) (map (λ f. p ∷ f) xs)
-  across p s xs = map_ext _ _ (λ f. ap (λ l. l ++ f) (onto_more p s) ∙ append_assoc (onto [] s) (p ∷ []) f) xs ∙ sym (map_map (λ f. p ∷ f) (λ f. onto [] s ++ f) xs)
+  across p s xs = map_ext _ _ (λ f. ap (λ l. l ++ f) (onto_more p s) ∙ append_assoc (onto [] s) (p ∷ []) f) xs ∙ sym (map-map (λ f. onto [] s ++ f) (λ f. p ∷ f) xs)
 
   begun : (d : ℕ) (s : List ℕ) → lst.beginnings P d (onto [] s) ≡ map (λ f. onto [] s ++ f) (nodes M d s)
   begun zero s = refl
@@ -79,8 +79,8 @@ module _ {C : Type 0} (P : Problem C) where
   opens_is : (start q : List ℕ) → length q ≤ P.entries → opens M (fulls M P.entries []) [] (M.cost (onto [] start)) q ≡ lst.is_open P start q
   opens_is start q h =
       ap₂ ◌&&◌ (leq_onto P q start)
-      (every_ext _ _ (fulls M P.entries []) (All-weaker _ _ (λ f w. ap₂ (λ a b. not a || b) (before_precedes f q (omega (arith, w.0))) (leq_onto P q f)) _ (fulls_in M P.entries []))
-      ∙ ap (every (λ f. not (precedes (take (length q) f) q) || at_most P.measure (nat.cost P q) (nat.cost P f))) (sym (done P.entries [] ∙ map_same (fulls M P.entries []))))
+      (all_ext _ _ (fulls M P.entries []) (All-weaker _ _ (λ f w. ap₂ (λ a b. not a || b) (before_precedes f q (omega (arith, w.0))) (leq_onto P q f)) _ (fulls_in M P.entries []))
+      ∙ ap (list_all (λ f. not (precedes (take (length q) f) q) || at_most P.measure (nat.cost P q) (nat.cost P f))) (sym (done P.entries [] ∙ map_same (fulls M P.entries []))))
 
   due_is : (start q : List ℕ) → 0 < length q → length q ≤ P.entries → due_or_not P start q ≡ lst.is_due P start q
   due_is start [] h k = absurd (omega arith)

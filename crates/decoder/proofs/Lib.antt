@@ -11,6 +11,7 @@ pub mod Enumerate
 pub mod Reach
 pub mod Choice
 pub mod Guess
+pub mod Ranges
 pub mod Rounding
 pub mod Starts
 pub mod Promised
@@ -18,4 +19,3 @@ pub mod Signs
 pub mod Searching
 pub mod Posed
 pub mod Starting
-pub mod Small

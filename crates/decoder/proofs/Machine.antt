@@ -1,22 +1,18 @@
 -- A problem as a tree search, whose beginnings have their last entry first.
-use Rattle.std.proofs.Common.{ℕ, cond, ltb, List, [], ◌∷◌, length, get_or, ℤ, pos, ◌+ℤ◌, ◌-ℤ◌, ◌*ℤ◌}
+use Rattle.std.proofs.Common.{ℕ, cond, ltb, List, [], ◌∷◌, length, get_or, ℤ, pos, ◌+ℤ◌, ◌-ℤ◌}
 use Rattle.legs.specs.Measure.{cost_of, at_most}
 use Rattle.decoder.proofs.Tree.{Rules}
-use Rattle.decoder.specs.Sequences.{Problem, leg_of, coupling, sum_below}
+use Rattle.decoder.specs.Sequences.{Problem, leg_of, sum_below, term}
 
 module _ {C : Type 0} (P : Problem C) where
-  -- V's entry in row j and column k times the level of p
-  abbrev pub term : ℕ → ℕ → ℕ → ℤ
-  term j k p = coupling P.triangle j k *ℤ ((leg_of P k).level p)
-
   -- row j of V times the levels of the first k entries of q
   abbrev pub row_sum : List ℕ → ℕ → ℕ → ℤ
-  row_sum q j k = sum_below (λ i. term j i (get_or q i 0)) k
+  row_sum q j k = sum_below (λ i. term P j i (get_or q i 0)) k
 
   -- row j of V times the levels of a beginning
   abbrev pub sum_back : ℕ → List ℕ → ℤ
   sum_back j [] = pos 0
-  sum_back j (p ∷ s) = sum_back j s +ℤ term j (length s) p
+  sum_back j (p ∷ s) = sum_back j s +ℤ term P j (length s) p
 
   abbrev pub difference_back : ℕ → List ℕ → ℤ
   difference_back j s = get_or P.target j (pos 0) -ℤ sum_back j s

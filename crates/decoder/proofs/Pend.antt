@@ -2,8 +2,8 @@
 use Rattle.std.proofs.Common.{◌≡◌, ℕ, suc, ◌+◌, ◌-◌, ◌<◌, ◌≤◌, Bool, true, false, cond, List, [], ◌∷◌, ◌++◌, map, length, fold, filter, sym, refl, ap, ◌∙◌, arith}
 use Rattle.std.specs.List.{range_with_len}
 use Rattle.std.proofs.lemmas.List.{map-append, append_assoc, append-nil}
+use Rattle.std.proofs.lemmas.Simd.{map-map}
 use Rattle.decoder.proofs.Tree.{Rules, Lawful, moves, rest, onto, fulls, pick}
-use Rattle.decoder.proofs.Bools.{map_map}
 use Rattle.decoder.proofs.Walk.{after, seen, visits, after_skip, fulls_of}
 
 pub folded_append : {A B : Type 0} (f : B → A → B) (b : B) (xs ys : List A) → fold f b (xs ++ ys) ≡ fold f (fold f b xs) ys
@@ -29,7 +29,7 @@ module _ {C : Type 0} (R : Rules C) where
   after_kids d s (p ∷ ps) b =
       ap (fold (pick R) b) (map-append (onto s) (map (λ f. p ∷ f) (fulls R d (p ∷ s))) (fulls_of R d s ps))
       ∙ folded_append (pick R) b (map (onto s) (map (λ f. p ∷ f) (fulls R d (p ∷ s)))) (map (onto s) (fulls_of R d s ps))
-      ∙ ap (λ v. fold (pick R) (fold (pick R) b v) (map (onto s) (fulls_of R d s ps))) (map_map (λ f. p ∷ f) (onto s) (fulls R d (p ∷ s)))
+      ∙ ap (λ v. fold (pick R) (fold (pick R) b v) (map (onto s) (fulls_of R d s ps))) (map-map (onto s) (λ f. p ∷ f) (fulls R d (p ∷ s)))
       ∙ after_kids d s ps (after R d (p ∷ s) b)
 
   pub after_suc : (d : ℕ) (s b : List ℕ) → after R (suc d) s b ≡ afters d s (moves R s) b

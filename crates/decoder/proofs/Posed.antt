@@ -1,23 +1,14 @@
--- A task poses a problem that keeps every limit.
-use Rattle.std.proofs.Common.{◌≡◌, ℕ, ◌%◌, Bool, ap, ◌∙◌, arith}
+-- What the code's struct poses keeps every limit.
+use Rattle.std.proofs.Common.{ℕ, arith}
 use Rattle.legs.specs.Model as leg
-use Rattle.legs.specs.Model.{LegModel}
 use Rattle.legs.specs.Measure as measure
-use Rattle.legs.specs.Measure.{MeasureModel}
+use Rattle.legs.specs.declared.measure.Measure as priced
+use Rattle.legs.specs.declared.phases.Phases as phases
 use Rattle.decoder.specs.Sequences.{Sound}
-use Rattle.decoder.specs.Tasks.{posed, unpriced}
-use Rattle.decoder.specs.declared.task.Task.{Task}
-use Rattle.decoder.proofs.Reach.{Bounded}
+use Rattle.decoder.specs.Tasks.{posed_by}
+use Rattle.decoder.specs.declared.problem.Problem as code
 
-pub sound : {C : Type 0} {legs : ℕ → LegModel} {m : MeasureModel C} (k : Task) → ((phase : ℕ) → leg.Lawful (legs phase)) → measure.Lawful m → Sound (posed legs m k)
-sound k ll ml = record { legs_lawful = ll; measure_lawful = ml; some = omega (arith, k.some); few = omega (arith, k.few); coupled = k.coupled; aimed = k.aimed }
-
-pub bounds : {legs : ℕ → LegModel} (k : Task) → ((phase : ℕ) → leg.Lawful (legs phase)) → Bounded (unpriced legs k)
-bounds k ll = record { legs_lawful = ll; coupled = k.coupled; aimed = k.aimed }
-
--- what a leg answers when it is asked by phase
-pub by_count : (legs : ℕ → LegModel) (j phase n : ℕ) → phase ≡ j % 3 → n ≡ (legs phase).count → n ≡ (legs (j % 3)).count
-by_count legs j phase n e f = f ∙ ap (λ i. (legs i).count) e
-
-pub by_permits : (legs : ℕ → LegModel) (j phase x p : ℕ) (y : Bool) → phase ≡ j % 3 → y ≡ (legs phase).permits x p → y ≡ (legs (j % 3)).permits x p
-by_permits legs j phase x p y e f = f ∙ ap (λ i. (legs i).permits x p) e
+pub sound : {L M C : Type 0} {l : phases.Ghosts L} {m : priced.Ghosts M C} → ((legs : L) (phase : ℕ) → leg.Lawful (l.models legs phase)) → ((x : M) → measure.Lawful (m.meaning x)) → (p : code.Problem L M) → Sound (posed_by l m p)
+sound ll ml p =
+    let k = p.task.now in
+    record { legs_lawful = ll p.legs.now; measure_lawful = ml p.measure.now; some = omega (arith, k.some); few = omega (arith, k.few); coupled = k.coupled; aimed = k.aimed }

@@ -117,16 +117,9 @@ module _ {C : Type 0} {P : Problem C} (o : Sound P) where
         x.mark_is ∙ ap (λ xs. marked (leb (length xs) limit)) (sym u) ∙ sym y.mark_is,
       )
 
--- all that is told of an answer
-pub record Told {C : Type 0} (P : Problem C) (limit : ℕ) (b : List ℕ) (paid : C) (count : ℕ) (mark : Mark) : Type 0 where
-  pub computed_so : Computed P (computed.start P) limit b paid count mark
-  pub decoded_so : Placed P → Decoded P limit b paid count mark
-  pub promised_so : Placed P → Promise P limit b paid count mark
-
-pub told : {C : Type 0} {P : Problem C} → Sound P → {s : List ℕ} → s ≡ computed.start P → {limit : ℕ} {b : List ℕ} {paid : C} {count : ℕ} {mark : Mark} → Computed P s limit b paid count mark → Told P limit b paid count mark
-told {P = P} o e {limit} {b} {paid} {count} {mark} c =
-    let a : Computed P (computed.start P) limit b paid count mark = subst (λ s. Computed P s limit b paid count mark) e c in
-    record { computed_so = a; decoded_so = λ pl. decoded o pl limit b paid count mark a; promised_so = λ pl. promised o (decoded o pl limit b paid count mark a) }
+-- a search that starts from the computed start
+pub from_start : {C : Type 0} {P : Problem C} {s : List ℕ} → s ≡ computed.start P → {limit : ℕ} {b : List ℕ} {paid : C} {count : ℕ} {mark : Mark} → Computed P s limit b paid count mark → Computed P (computed.start P) limit b paid count mark
+from_start {P = P} e {limit} {b} {paid} {count} {mark} c = subst (λ s. Computed P s limit b paid count mark) e c
 
 pub answer_stands : (C : Type 0) → AnswerStands C
 answer_stands C = record { stands = λ P o pl. decoded o pl; alone = λ P o. one_answer o }

@@ -1,5 +1,5 @@
 -- How large differences get, and that the cost of every beginning is one that its measure can reach.
-use Rattle.std.proofs.Common.{◌≡◌, ℕ, zero, suc, ◌+◌, ◌*◌, ◌%◌, ◌<◌, ◌≤◌, Bool, true, false, not, List, [], ◌∷◌, length, get_or, ℤ, pos, negsuc, ◌+ℤ◌, ◌-ℤ◌, ◌*ℤ◌, neg_ℤ, ◌≤ℤ◌, Ordering, Less, Equal, Greater, sym, refl, ap, ◌∙◌, subst, ap₂, add-one, arith, w64, to_z, of_z}
+use Rattle.std.proofs.Common.{◌≡◌, ℕ, zero, suc, ◌+◌, ◌*◌, ◌%◌, ◌<◌, ◌≤◌, Bool, true, false, not, List, [], ◌∷◌, length, get_or, ℤ, pos, negsuc, ◌+ℤ◌, ◌-ℤ◌, ◌*ℤ◌, neg_ℤ, ◌≤ℤ◌, Ordering, Less, Equal, Greater, sym, refl, ap, ◌∙◌, subst, add-one, arith, w64, to_z, of_z}
 use borrow.Author.Differences.{ints}
 use Rattle.std.specs.Ordering.{is_le, is_lt, is_gt, ordering_reverse}
 use Rattle.std.specs.List.{AllByRecursion}
@@ -7,10 +7,10 @@ use Rattle.std.proofs.lemmas.Bool.{false≢true}
 use Rattle.legs.specs.Model as leg
 use Rattle.legs.specs.Measure.{Small, Reached, at_most}
 use Rattle.decoder.specs.Limits.{Within}
-use Rattle.decoder.specs.Sequences.{Problem, Sound, leg_of, coupling, left_over, difference, cost, cost_to, NoDearer}
+use Rattle.decoder.specs.Sequences.{Problem, Sound, leg_of, coupling, left_over, difference, cost, cost_to, NoDearer, term}
 use Rattle.decoder.specs.Theorems.{DifferencesSmall}
 use Rattle.decoder.proofs.Tree.{Lawful, backward}
-use Rattle.decoder.proofs.Machine.{term, row_sum, sum_back, difference_back, differences, machine}
+use Rattle.decoder.proofs.Machine.{row_sum, sum_back, difference_back, differences, machine}
 use Rattle.decoder.proofs.Steps.{length_backward}
 use Rattle.decoder.proofs.Bridge.{cost_back}
 use Rattle.decoder.proofs.Signs.{take_off, small_bits}
@@ -102,10 +102,6 @@ module _ {C : Type 0} {P : Problem C} (o : Bounded P) where
 
   pub row_bits_small : (q : List ℕ) (j : ℕ) {x z : ℤ} → j < 15 → x ≡ left_over P q j j → z ≡ x -ℤ term P j j (get_or q j 0) → Small (to_z w64 (of_z w64 z))
   row_bits_small q j h e f = subst Small (sym (row_bits q j h e f)) (difference_small q j h)
-
--- the cost of one row more
-pub cost_more : {C : Type 0} (P : Problem C) (q : List ℕ) (j : ℕ) {c d : C} {z : ℤ} → c ≡ cost_to P q j → z ≡ difference P q j → d ≡ P.measure.after c z → d ≡ cost_to P q (j + 1)
-cost_more P q j e f h = h ∙ ap₂ P.measure.after e f ∙ ap (cost_to P q) (sym (add-one j))
 
 module _ {C : Type 0} {P : Problem C} (o : Sound P) where
   back_within : (j : ℕ) (s : List ℕ) → Within (length s * 2097152) (sum_back P j s)

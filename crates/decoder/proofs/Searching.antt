@@ -1,18 +1,16 @@
 -- What the search keeps from step to step, as the code has it.
 use Rattle.std.proofs.Common.{◌≡◌, ℕ, zero, suc, ◌+◌, ◌-◌, ◌%◌, ◌<◌, ◌≤◌, Bool, true, false, not, ◌≢◌, List, [], ◌∷◌, length, get_or, take, set, replicate, ℤ, pos, ◌+ℤ◌, ◌-ℤ◌, Ordering, sym, refl, ap, ◌∙◌, subst, ap₂, ⊎_elim, add-one, arith, w64, to_z, of_z}
 use Rattle.std.specs.Ordering.{is_le, is_gt}
-use Rattle.std.specs.List.{AllByRecursion}
 use Rattle.std.proofs.lemmas.List.{get_or_default, get_or-set_same, get_or-set_other, length-set}
 use Rattle.std.proofs.lemmas.Bool.{cases_eq}
-use Rattle.legs.specs.Model.{most_positions}
 use Rattle.legs.specs.Measure.{Small, Reached, at_most}
-use Rattle.decoder.specs.Sequences.{Problem, Sound, leg_of, origin, left_over, difference, cost}
+use Rattle.decoder.specs.Sequences.{Problem, Sound, leg_of, origin, left_over, difference, cost, term}
 use Rattle.decoder.specs.Computed.{Computed}
 use Rattle.decoder.specs.Tasks.{ZeroPast}
 use Rattle.decoder.specs.declared.Mark.{Mark}
 use Rattle.decoder.specs.declared.Mark.TheVariants.{Certified, Stopped}
 use Rattle.decoder.proofs.Tree.{Rules, backward, Found, onto}
-use Rattle.decoder.proofs.Machine.{term, row_sum, machine}
+use Rattle.decoder.proofs.Machine.{row_sum, machine}
 use Rattle.decoder.proofs.Steps.{Going, kept_top, length_backward, go_start, go_skip, go_back, go_over, go_full, go_down, go_stop, go_end}
 use Rattle.decoder.proofs.Best.{backward_take}
 use Rattle.decoder.proofs.Bridge.{cost_back, cost_onto, previous_is}
@@ -72,9 +70,6 @@ module _ {C : Type 0} {P : Problem C} (o : Sound P) where
     best_clear = cl;
     best_long = ls;
   }
-
-  pub low_size : (j : ℕ) {k : ℕ} → k ≡ (leg_of P j).count → k ≤ most_positions
-  low_size j e = subst (λ x. x ≤ most_positions) (sym e) (o.legs_lawful (j % 3)).few
 
   module _ {limit : ℕ} {start : List ℕ} {j : ℕ} {at : List ℕ} {costs : List C} {left : List ℤ} {count : ℕ} {best : List ℕ} {paid : C} (s : Stands P limit start j at costs left count best paid) where
     abbrev g : Going M n limit (backward n start) j at costs count (backward n best) paid
@@ -154,11 +149,6 @@ module _ {C : Type 0} {P : Problem C} (o : Sound P) where
           best_clear = s.best_clear;
           best_long = s.best_long;
         }
-
-    pub low_before : (j ≡ 0 → ⊥) → get_or at (j - 1) 0 < most_positions
-    low_before h =
-        let q : j ≡ suc (j - 1) = omega arith in
-        (subst (λ i. AllByRecursion (λ x. x < most_positions) (backward i at)) q g.low).0
 
     -- the candidate is permitted
     pub record Open : Type 0 where

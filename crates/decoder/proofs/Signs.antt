@@ -7,9 +7,6 @@ use Rattle.decoder.specs.Limits.{Within}
 pub small_bits : (a : ℤ) → Within 161218560 a → to_z w64 (of_z w64 a) ≡ a
 small_bits a h = omega (arith, ints)
 
-pub small_kept : (a : ℤ) → Within 161218560 a → Within 161218560 (to_z w64 (of_z w64 a))
-small_kept a h = omega (arith, ints)
-
 pub sub_fits : (x a b : ℤ) → x ≡ a → Within 161218560 a → Within 2097152 b → SFits w64 (x -ℤ to_z w64 (of_z w64 b))
 sub_fits x a b e h k = omega (arith, ints)
 
@@ -19,7 +16,3 @@ sub_is x a b e h k = omega (arith, ints)
 -- one term more is taken off
 pub take_off : (a b c : ℤ) → (a -ℤ b) -ℤ c ≡ a -ℤ (b +ℤ c)
 take_off a b c = omega (arith, ints)
-
--- a result that is handed on
-pub passed_on : (z v : ℤ) → z ≡ v → Within 2097152 v → Within 2097152 (to_z w64 (of_z w64 z)) × (to_z w64 (of_z w64 z) ≡ v)
-passed_on z v e h = (omega (arith, ints), omega (arith, ints))

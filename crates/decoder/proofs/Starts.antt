@@ -4,6 +4,7 @@ use Rattle.std.specs.Option.{option_map}
 use Rattle.std.specs.Ordering.{is_lt}
 use Rattle.std.proofs.lemmas.List.{get_or-take}
 use Rattle.std.proofs.lemmas.Bool.{and_right, and_parts, and_from, ltb-true, lt-ltb, eqb-true, eq-eqb, cases_eq, both_ways}
+use Rattle.std.proofs.lemmas.Option.{none-some}
 use Rattle.decoder.specs.Sequences.{Problem, Sound, leg_of, MayBe, Feasible, NoDearer, Cheaper, cost, cost_to}
 use Rattle.decoder.specs.Guesses.{moved_on, Placed, Rounded, Remembered, Start}
 use Rattle.decoder.specs.Computed as computed
@@ -18,9 +19,6 @@ use Rattle.decoder.proofs.Rounding.{rounded_is, rounded_alone, rounded_feasible}
 
 pub same_some : {X : Type 0} (x y : Option X) (a b : X) → x ≡ Some a → x ≡ Some b → a ≡ b
 same_some x y a b p q = cc
-
-pub none_some : {X : Type 0} (a : X) → ◌≡◌ {A = Option X} None (Some a) → ⊥
-none_some a e = let z : ◌≡◌ {A = ℕ} 0 1 = cc in omega arith
 
 module _ {C : Type 0} (P : Problem C) where
   -- the tests say what they should
@@ -122,7 +120,7 @@ module _ {C : Type 0} {P : Problem C} (o : Sound P) where
       }
 
       go : (m : Option (List ℕ)) → option_map moved_on P.remembered ≡ m → Start P (start_with P m)
-      go None e = record { guess = rounded P; rounded = rounded_is o pl; choice = inr (refl, λ g m f c. none_some g (sym e ∙ m)) }
+      go None e = record { guess = rounded P; rounded = rounded_is o pl; choice = inr (refl, λ g m f c. none-some g (sym e ∙ m)) }
       go (Some g) e = by g e _ refl
 
 pub start_stands : (C : Type 0) → StartStands C

@@ -224,11 +224,6 @@ module _ {C : Type 0} (R : Rules C) where
       kin : backward i (set pos i (get_or pos i 0 + 1)) ≡ backward i pos
       kin = backward_set i pos i (get_or pos i 0 + 1) (omega arith)
 
-pub get_or_backward : (j : ℕ) (xs : List ℕ) (i : ℕ) → i < j → get_or (backward j xs) i 0 ≡ get_or xs (j - 1 - i) 0
-get_or_backward zero xs i h = absurd (omega arith)
-get_or_backward (suc j) xs zero h = let e : j ≡ suc j - 1 - 0 = omega arith in ap (λ k. get_or xs k 0) e
-get_or_backward (suc j) xs (suc i) h = get_or_backward j xs i (omega arith) ∙ (let e : j - 1 - i ≡ suc j - 1 - suc i = omega arith in ap (λ k. get_or xs k 0) e)
-
 module _ {C : Type 0} (R : Rules C) {N : ℕ} (L : Lawful R N) (n limit : ℕ) (start : List ℕ) (nb : n ≤ N) (sb : length start ≤ N) where
   same_list : seen R n [] start ≡ map (onto []) (dues R n (R.cost start))
   same_list = seen_dues R L n [] start (omega arith) sb

@@ -3,9 +3,8 @@
 use Rattle.std.proofs.Common.{◌≡◌, ℕ, zero, suc, ◌-◌, ◌<◌, ◌≤◌, min, Bool, true, false, cond, not, ◌&&◌, ◌||◌, eqb, ltb, leb, List, [], ◌∷◌, map, length, get_or, take, fold, filter}
 use mathlib.Core.List.{drop_last, reverse_aux}
 use Rattle.decoder.specs.Answers.{marked}
-use Rattle.decoder.specs.Limits.{every}
+use Rattle.std.specs.List.{list_all, range_with_len, flat_map}
 use Rattle.decoder.specs.declared.Mark.{Mark}
-use Rattle.std.specs.List.{range_with_len, flat_map}
 
 -- what may follow a beginning, what it costs, and how costs compare
 pub record Rules (C : Type 0) : Type 0 where
@@ -53,7 +52,7 @@ module _ {C : Type 0} (R : Rules C) where
 
   -- neither b nor any of fs before q is cheaper than q
   abbrev pub opens : List (List ℕ) → List ℕ → C → List ℕ → Bool
-  opens fs s b q = R.leq (R.cost (onto s q)) b && every (λ f. not (before f q) || R.leq (R.cost (onto s q)) (R.cost (onto s f))) fs
+  opens fs s b q = R.leq (R.cost (onto s q)) b && list_all (λ f. not (before f q) || R.leq (R.cost (onto s q)) (R.cost (onto s f))) fs
 
   -- q is due, where fs are the full sequences and b the cost of the start
   abbrev pub due : List (List ℕ) → List ℕ → C → List ℕ → Bool

@@ -1,14 +1,16 @@
 -- The tree search, and that it visits the due nodes.
 use Rattle.std.proofs.Common.{◌≡◌, ℕ, zero, suc, ◌+◌, ◌-◌, ◌<◌, ◌≤◌, Bool, true, false, cond, not, ◌&&◌, ◌||◌, List, [], ◌∷◌, ◌++◌, map, length, fold, filter, sym, refl, ap, ◌∙◌, ap₂, arith}
 use mathlib.Core.List.{drop_last}
-use Rattle.std.specs.List.{range_with_len, flat_map, AllByRecursion}
+use Rattle.std.specs.List.{range_with_len, flat_map, AllByRecursion, list_all}
 use Rattle.std.proofs.lemmas.List.Elements.{filter-append}
 use Rattle.std.proofs.ByRecursion.{All-map, All-weaker}
 use Rattle.std.proofs.lemmas.List.{map-append}
 use Rattle.std.proofs.lemmas.Bool.{both_ways, cond_both}
+use Rattle.std.proofs.Math.Bool.{and-true, and_assoc}
+use Rattle.std.proofs.lemmas.List.Folds.{list_all-append, list_all-map}
+use Rattle.std.proofs.lemmas.Simd.{map-map}
 use Rattle.decoder.proofs.Tree.{Rules, Lawful, moves, before, onto, fulls, nodes, opens, due, pick}
-use Rattle.decoder.specs.Limits.{every}
-use Rattle.decoder.proofs.Bools.{and_true, and_assoc, absorb_left, absorb_right, all_of, all_joined, every_append, every_map, every_ext, every_true, kept_ext, kept_none, kept_map, map_map, before_same, before_less, before_more}
+use Rattle.decoder.proofs.Bools.{absorb_left, absorb_right, all_of, all_joined, all_ext, all_true, kept_ext, kept_none, kept_map, before_same, before_less, before_more}
 
 abbrev pub over : {B V : Type 0} → (ℕ → B → List V) → (ℕ → B → B) → List ℕ → B → List V
 over v e [] b = []
@@ -102,12 +104,12 @@ module _ {C : Type 0} (R : Rules C) {N : ℕ} (L : Lawful R N) where
       go true e = absorb_left _ _ (λ h. L.trans x f b hx hf hb h e)
       go false e = absorb_right _ _ (λ h. L.trans x b f hx hb hf h (L.total f b hf hb e))
 
-  pub folded_leq : (x b : List ℕ) (fs : List (List ℕ)) → length x ≤ N → length b ≤ N → AllByRecursion (λ f. length f ≤ N) fs → R.leq (R.cost x) (R.cost (fold (pick R) b fs)) ≡ (R.leq (R.cost x) (R.cost b) && every (λ f. R.leq (R.cost x) (R.cost f)) fs)
-  folded_leq x b [] hx hb a = sym (and_true _)
+  pub folded_leq : (x b : List ℕ) (fs : List (List ℕ)) → length x ≤ N → length b ≤ N → AllByRecursion (λ f. length f ≤ N) fs → R.leq (R.cost x) (R.cost (fold (pick R) b fs)) ≡ (R.leq (R.cost x) (R.cost b) && list_all (λ f. R.leq (R.cost x) (R.cost f)) fs)
+  folded_leq x b [] hx hb a = sym (and-true _)
   folded_leq x b (f ∷ fs) hx hb a =
       folded_leq x (pick R b f) fs hx (fold_fit R N b (f ∷ []) hb (a.0, tt)) a.1
-      ∙ ap (λ v. v && every (λ g. R.leq (R.cost x) (R.cost g)) fs) (pick_leq x b f hx hb a.0)
-      ∙ and_assoc (R.leq (R.cost x) (R.cost b)) (R.leq (R.cost x) (R.cost f)) (every (λ g. R.leq (R.cost x) (R.cost g)) fs)
+      ∙ ap (λ v. v && list_all (λ g. R.leq (R.cost x) (R.cost g)) fs) (pick_leq x b f hx hb a.0)
+      ∙ and_assoc (R.leq (R.cost x) (R.cost b)) (R.leq (R.cost x) (R.cost f)) (list_all (λ g. R.leq (R.cost x) (R.cost g)) fs)
 
   pub grows_onto : (s q : List ℕ) → length s + length q ≤ N → R.leq (R.cost s) (R.cost (onto s q)) ≡ true
   grows_onto s [] h = leq_refl s (omega arith)
@@ -136,11 +138,11 @@ module _ {C : Type 0} (R : Rules C) {N : ℕ} (L : Lawful R N) where
   opens_here : (d : ℕ) (s : List ℕ) (p : ℕ) (ps : List ℕ) (b : C) (t : List ℕ) → AllByRecursion (λ x. p < x) ps → opens R (fulls_of R d s (p ∷ ps)) s b (p ∷ t) ≡ opens R (fulls R d (p ∷ s)) (p ∷ s) b t
   opens_here d s p ps b t a =
       ap (λ v. R.leq (R.cost (onto (p ∷ s) t)) b && v)
-      (every_append T F G
-      ∙ ap (λ v. every T F && v) (every_true T G (later G (past_fulls d s p ps a)))
-      ∙ and_true (every T F)
-      ∙ every_map T (λ f. p ∷ f) (fulls R d (p ∷ s))
-      ∙ every_ext _ _ (fulls R d (p ∷ s)) (all_of _ (λ f. ap (λ v. not v || R.leq (R.cost (onto (p ∷ s) t)) (R.cost (onto (p ∷ s) f))) (before_same p f t)) _))
+      (list_all-append T F G
+      ∙ ap (λ v. list_all T F && v) (all_true T G (later G (past_fulls d s p ps a)))
+      ∙ and-true (list_all T F)
+      ∙ list_all-map T (λ f. p ∷ f) (fulls R d (p ∷ s))
+      ∙ all_ext _ _ (fulls R d (p ∷ s)) (all_of _ (λ f. ap (λ v. not v || R.leq (R.cost (onto (p ∷ s) t)) (R.cost (onto (p ∷ s) f))) (before_same p f t)) _))
     where
       T : List ℕ → Bool
       T f = not (before f (p ∷ t)) || R.leq (R.cost (onto (p ∷ s) t)) (R.cost (onto s f))
@@ -163,12 +165,12 @@ module _ {C : Type 0} (R : Rules C) {N : ℕ} (L : Lawful R N) where
   opens_past : (d : ℕ) (s : List ℕ) (p : ℕ) (ps : List ℕ) (b : List ℕ) (x : ℕ) (t : List ℕ) → length s + suc d ≤ N → length b ≤ N → length t ≤ d → p < x → opens R (fulls_of R d s (p ∷ ps)) s (R.cost b) (x ∷ t) ≡ opens R (fulls_of R d s ps) s (R.cost (after R d (p ∷ s) b)) (x ∷ t)
   opens_past d s p ps b x t hs hb ht h =
       ap (λ v. R.leq K (R.cost b) && v)
-      (every_append T F G
-      ∙ ap (λ v. v && every T G) (every_map T (λ f. p ∷ f) (fulls R d (p ∷ s))
-      ∙ every_ext _ _ (fulls R d (p ∷ s)) (all_of _ (λ f. ap (λ v. not v || R.leq K (R.cost (onto (p ∷ s) f))) (before_less p x f t h)) _)
-      ∙ sym (every_map (λ f. R.leq K (R.cost f)) (onto (p ∷ s)) (fulls R d (p ∷ s)))))
-      ∙ sym (and_assoc (R.leq K (R.cost b)) (every (λ f. R.leq K (R.cost f)) (map (onto (p ∷ s)) (fulls R d (p ∷ s)))) (every T G))
-      ∙ ap (λ v. v && every T G) (sym (folded_leq (onto (x ∷ s) t) b (map (onto (p ∷ s)) (fulls R d (p ∷ s))) (omega (arith, length_onto (x ∷ s) t)) hb (fulls_fit R N d (p ∷ s) (omega arith))))
+      (list_all-append T F G
+      ∙ ap (λ v. v && list_all T G) (list_all-map T (λ f. p ∷ f) (fulls R d (p ∷ s))
+      ∙ all_ext _ _ (fulls R d (p ∷ s)) (all_of _ (λ f. ap (λ v. not v || R.leq K (R.cost (onto (p ∷ s) f))) (before_less p x f t h)) _)
+      ∙ sym (list_all-map (λ f. R.leq K (R.cost f)) (onto (p ∷ s)) (fulls R d (p ∷ s)))))
+      ∙ sym (and_assoc (R.leq K (R.cost b)) (list_all (λ f. R.leq K (R.cost f)) (map (onto (p ∷ s)) (fulls R d (p ∷ s)))) (list_all T G))
+      ∙ ap (λ v. v && list_all T G) (sym (folded_leq (onto (x ∷ s) t) b (map (onto (p ∷ s)) (fulls R d (p ∷ s))) (omega (arith, length_onto (x ∷ s) t)) hb (fulls_fit R N d (p ∷ s) (omega arith))))
     where
       K : C
       K = R.cost (onto (x ∷ s) t)
@@ -190,13 +192,13 @@ module _ {C : Type 0} (R : Rules C) {N : ℕ} (L : Lawful R N) where
   -- below p, where p is entered and where it is not
   due_in : (d : ℕ) (s : List ℕ) (p : ℕ) (ps : List ℕ) (b : C) → AllByRecursion (λ x. p < x) ps → R.leq (R.cost (p ∷ s)) b ≡ true → (q : List ℕ) → Some q × (length q ≤ d) → due R (fulls_of R d s (p ∷ ps)) s b (p ∷ q) ≡ due R (fulls R d (p ∷ s)) (p ∷ s) b q
   due_in d s p ps b a e [] h = absurd h.0
-  due_in d s p ps b a e (x ∷ []) h = opens_here d s p ps b [] a ∙ ap (λ v. v && every (λ f. true) (fulls R d (p ∷ s))) e ∙ every_true (λ f. true) (fulls R d (p ∷ s)) (all_of _ (λ _. refl) _)
+  due_in d s p ps b a e (x ∷ []) h = opens_here d s p ps b [] a ∙ ap (λ v. v && list_all (λ f. true) (fulls R d (p ∷ s))) e ∙ all_true (λ f. true) (fulls R d (p ∷ s)) (all_of _ (λ _. refl) _)
   due_in d s p ps b a e (x ∷ (y ∷ q)) h = opens_here d s p ps b (x ∷ drop_last (y ∷ q)) a
 
   due_out : (d : ℕ) (s : List ℕ) (p : ℕ) (ps : List ℕ) (b : List ℕ) → length s + suc d ≤ N → length b ≤ N → AllByRecursion (λ x. p < x) ps → R.leq (R.cost (p ∷ s)) (R.cost b) ≡ false → (q : List ℕ) → Some q × (length q ≤ d) → due R (fulls_of R d s (p ∷ ps)) s (R.cost b) (p ∷ q) ≡ false
   due_out d s p ps b hs hb a e [] h = absurd h.0
   due_out d s p ps b hs hb a e (x ∷ q) h =
-      opens_here d s p ps (R.cost b) (drop_last (x ∷ q)) a ∙ ap (λ v. v && every (λ f. not (before f (drop_last (x ∷ q))) || R.leq (R.cost (onto (p ∷ s) (drop_last (x ∷ q)))) (R.cost (onto (p ∷ s) f))) (fulls R d (p ∷ s))) (above_onto (p ∷ s) (drop_last (x ∷ q)) b (omega (arith, h.1, drop_last_short x q)) hb e)
+      opens_here d s p ps (R.cost b) (drop_last (x ∷ q)) a ∙ ap (λ v. v && list_all (λ f. not (before f (drop_last (x ∷ q))) || R.leq (R.cost (onto (p ∷ s) (drop_last (x ∷ q)))) (R.cost (onto (p ∷ s) f))) (fulls R d (p ∷ s))) (above_onto (p ∷ s) (drop_last (x ∷ q)) b (omega (arith, h.1, drop_last_short x q)) hb e)
 
   abbrev pub Seen : ℕ → Type 0
   Seen d = (s b : List ℕ) → length s + d ≤ N → length b ≤ N → seen R d s b ≡ map (onto s) (filter (due R (fulls R d s) s (R.cost b)) (nodes R d s))
@@ -205,7 +207,7 @@ module _ {C : Type 0} (R : Rules C) {N : ℕ} (L : Lawful R N) where
   seen_here d ih s p ps b hs hb a true e =
       ih (p ∷ s) b (omega arith) hb
       ∙ ap (map (onto (p ∷ s))) (sym (kept_ext (λ q. D (p ∷ q)) _ below (All-weaker (λ q. Some q × (length q ≤ d)) _ (due_in d s p ps (R.cost b) a e) below (some_nodes d (p ∷ s)))))
-      ∙ sym (map_map (λ f. p ∷ f) (onto s) (filter (λ q. D (p ∷ q)) below))
+      ∙ sym (map-map (onto s) (λ f. p ∷ f) (filter (λ q. D (p ∷ q)) below))
       ∙ ap (map (onto s)) (sym (kept_map D (λ f. p ∷ f) below))
     where
       below : List (List ℕ)

@@ -1,11 +1,10 @@
 -- The same answer, computed by plain enumeration.
 use Rattle.std.specs.Prelude.{◌≡◌, ℕ, zero, suc, min, Bool, true, cond, not, ◌&&◌, ◌||◌, List, [], ◌∷◌, ◌++◌, length, take, Some, None, fold, filter, Option, ◌==◌, nat_eq, nat_le, nat_lt, slice_index}
 use mathlib.Core.List.{drop_last}
-use Rattle.std.specs.List.{range_with_len, flat_map}
+use Rattle.std.specs.List.{range_with_len, flat_map, list_all}
 use Rattle.std.specs.Option.{option_map, unwrap_or}
 use Rattle.std.specs.Ordering.{is_lt}
 use Rattle.legs.specs.Measure.{at_most}
-use Rattle.decoder.specs.Limits.{every}
 use Rattle.decoder.specs.Sequences.{Problem, leg_of, origin, cost, precedes}
 use Rattle.decoder.specs.Guesses.{distance_at, moved_on}
 use Rattle.decoder.specs.Answers.{marked}
@@ -69,7 +68,7 @@ module _ {C : Type 0} (P : Problem C) where
   beginnings (suc d) q = flat_map (λ p. (q ++ (p ∷ [])) ∷ beginnings d (q ++ (p ∷ []))) (moves q)
 
   abbrev pub is_open : List ℕ → List ℕ → Bool
-  is_open s q = at_most P.measure (cost P q) (cost P s) && every (λ f. not (precedes (take (length q) f) q) || at_most P.measure (cost P q) (cost P f)) (sequences P.entries [])
+  is_open s q = at_most P.measure (cost P q) (cost P s) && list_all (λ f. not (precedes (take (length q) f) q) || at_most P.measure (cost P q) (cost P f)) (sequences P.entries [])
 
   abbrev pub is_due : List ℕ → List ℕ → Bool
   is_due s q = nat_le (length q) 1 || is_open s (drop_last q)

@@ -1,5 +1,6 @@
 -- How large the numbers of a problem may be.
-use Rattle.std.specs.Prelude.{ℕ, ◌≤◌, Bool, true, ◌&&◌, List, [], ◌∷◌, ℤ, nat_le, unsigned_abs}
+use Rattle.std.specs.Prelude.{ℕ, ◌≤◌, Bool, ◌&&◌, List, ℤ, nat_le, unsigned_abs}
+use Rattle.std.specs.List.{list_all}
 
 -- from -m to m
 abbrev pub Within : ℕ → ℤ → Type 0
@@ -17,14 +18,9 @@ most_target = 129761280
 abbrev pub most_entries : ℕ
 most_entries = 15
 
--- all of a list pass a test
-abbrev pub every : {X : Type 0} → (X → Bool) → List X → Bool
-every test [] = true
-every test (x ∷ xs) = test x && every test xs
-
 abbrev pub within : ℕ → ℤ → Bool
 within m z = nat_le (unsigned_abs z) m
 
 -- one to five stages, with V and the targets as small as they have to be
 abbrev pub in_limits : ℕ → List ℤ → List ℤ → Bool
-in_limits stages triangle target = nat_le 1 stages && (nat_le stages 5 && (every (within most_coupling) triangle && every (within most_target) target))
+in_limits stages triangle target = nat_le 1 stages && (nat_le stages 5 && (list_all (within most_coupling) triangle && list_all (within most_target) target))

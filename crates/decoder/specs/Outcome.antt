@@ -1,11 +1,13 @@
 -- What an answer of the decoder comes to.
-use Rattle.std.specs.Prelude.{ℕ, List, take}
-use Rattle.decoder.specs.Sequences.{Problem}
+use Rattle.std.specs.Prelude.{◌≡◌, ℕ, List, take}
+use Rattle.decoder.specs.Sequences.{Problem, cost}
 use Rattle.decoder.specs.Guesses.{Placed}
 use Rattle.decoder.specs.Answers.{Decoded}
 use Rattle.decoder.specs.Promise.{Promise}
 use Rattle.decoder.specs.Computed.{Computed, start}
+use Rattle.decoder.specs.Tasks.{Holds}
 use Rattle.decoder.specs.declared.Answer.{Answer}
+use Rattle.decoder.specs.declared.guesses.Priced.{Priced}
 
 module _ {C : Type 0} (P : Problem C) where
   -- the entries within the horizon
@@ -23,3 +25,8 @@ module _ {C : Type 0} (P : Problem C) where
   -- and keeps what is promised there
   abbrev pub AsPromised : ℕ → Answer C → Type 0
   AsPromised limit a = Placed P → Promise P limit (sequence_of a) a.cost a.count a.mark
+
+  -- what a search starts from: the computed start, at its cost
+  pub record Started (s : Priced C) : Type 0 where
+    pub holds : Holds P.entries s.sequence (start P)
+    pub cost_is : s.cost ≡ cost P (start P)

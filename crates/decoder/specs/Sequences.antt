@@ -81,9 +81,13 @@ module _ {C : Type 0} (P : Problem C) where
     pub full : length f ≡ P.entries
     pub permitted : Permitted f
 
+  -- V's entry in row j and column k, times the level of p
+  abbrev pub term : ℕ → ℕ → ℕ → ℤ
+  term j k p = coupling P.triangle j k *ℤ ((leg_of k).level p)
+
   -- what is left of row j's target once V times the level is taken off it for the first k entries
   abbrev pub left_over : List ℕ → ℕ → ℕ → ℤ
-  left_over q j k = slice_index_or P.target j (pos 0) -ℤ sum_below (λ i. coupling P.triangle j i *ℤ ((leg_of i).level (slice_index q i))) k
+  left_over q j k = slice_index_or P.target j (pos 0) -ℤ sum_below (λ i. term j i (slice_index q i)) k
 
   -- by how much row j misses its target; V is lower triangular, so the entries up to j have a part in it
   abbrev pub difference : List ℕ → ℕ → ℤ

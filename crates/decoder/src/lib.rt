@@ -5,13 +5,13 @@ ghost use Rattle.decoder.specs.Outcome.{AsComputed, AsDefined, AsPromised};
 ghost use Rattle.decoder.specs.Tasks.{entries_of, posed, ZeroPast};
 
 mod guesses;
+mod problem;
 mod rows;
 mod search;
 pub mod task;
 pub mod theorems;
 
-use crate::guesses::start;
-use crate::search::search_from;
+use crate::problem::Problem;
 use crate::task::Task;
 use legs::measure::Measure;
 use legs::phases::Phases;
@@ -23,8 +23,8 @@ pub enum Mark {
     Stopped,
 }
 
-// What a search found. Past the horizon the sequence has zeros.
-#[derive(Clone, Copy)]
+// What a search found. Past the horizon the sequence has zeros: the array is as long as the longest, so that nothing is allocated.
+#[derive(Clone, Copy, PartialEq, Eq, Debug)]
 pub struct Answer<C> {
     pub sequence: [u8; 15],
     pub cost: C,
@@ -45,6 +45,10 @@ pub fn decode<L: Phases, M: Measure>(
     ensures promised { AsPromised (posed (L.Phases.models legs.now) (M.Measure.meaning measure.now) task.now) limit result }
     ensures rest { ZeroPast (entries_of task.now) result.sequence }
 {
-    let start = start(legs, measure, task);
-    search_from(legs, measure, task, limit, &start.sequence, start.cost)
+    let problem = Problem {
+        legs,
+        measure,
+        task,
+    };
+    problem.search_from(problem.start(), limit)
 }

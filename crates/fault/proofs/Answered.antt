@@ -8,6 +8,11 @@ pub passed_on : {V W : Type 0} (p q : Option Fault) (P : V → Type 0) (Q : W �
 passed_on None q P Q f a = absurd a
 passed_on (Some g) q P Q f a = a
 
+-- what is refused is refused whatever would have been answered
+pub still_refused : {V W : Type 0} (p : Option Fault) (P : V → Type 0) (Q : W → Type 0) (f : Fault) → Answers p P (Err f) → Answers p Q (Err f)
+still_refused None P Q f a = absurd a
+still_refused (Some g) P Q f a = a
+
 -- a value was answered, so nothing was refused
 pub granted : {V : Type 0} (p : Option Fault) (P : V → Type 0) (v : V) → Answers p P (Ok v) → (p ≡ None) × P v
 granted None P v a = (refl, a)

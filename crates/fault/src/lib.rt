@@ -3,7 +3,11 @@
 
 ghost use Rattle.std.specs.Prelude.{◌≡◌, Some};
 ghost use Rattle.fault.specs.Printed.{layer_word, refusal_line};
+ghost use Rattle.fault.specs.Rules.{layer_of, number_of};
 
+mod rule;
+
+pub use rule::Rule;
 use std::fmt;
 
 // The layer that a refusal comes from. Layers above pass it on unchanged.
@@ -31,21 +35,44 @@ impl Layer {
     }
 }
 
-// A refusal. `number` names the rule that was broken, and `place` where: an offset, a position, a column or a length,
-// as the rule says, and 0 where it says nothing.
+impl fmt::Display for Layer {
+    ghost output = { λ layer. Some (layer_word layer) };
+
+    fn fmt<W: fmt::Write>(&self, f: &mut fmt::Formatter<W>) -> fmt::Result {
+        f.write_str(self.word())
+    }
+}
+
+// A refusal: the rule that was broken, and where: an offset, a position, a column or a length, as the rule says, and 0
+// where it says nothing.
 #[derive(Clone, Copy, PartialEq, Eq, Debug)]
 pub struct Fault {
-    pub layer: Layer,
-    pub number: u8,
+    pub rule: Rule,
     pub place: usize,
+}
+
+impl Fault {
+    // The layer that it comes from.
+    pub fn layer(self) -> Layer
+        ensures { result ≡ layer_of self.rule }
+    {
+        self.rule.layer()
+    }
+
+    // The number of its rule.
+    pub fn number(self) -> u8
+        ensures { result ≡ number_of self.rule }
+    {
+        self.rule.number()
+    }
 }
 
 impl fmt::Display for Fault {
     ghost output = { λ f. Some (refusal_line f) };
 
     fn fmt<W: fmt::Write>(&self, f: &mut fmt::Formatter<W>) -> fmt::Result {
-        let layer = self.layer.word();
-        let number = self.number;
+        let layer = self.layer();
+        let number = self.number();
         let place = self.place;
         write!(f, "no {layer} {number} {place}")
     }

@@ -1,5 +1,5 @@
 -- What follows when a file is not refused.
-use Rattle.std.proofs.Common.{◌≡◌, ℕ, zero, suc, ◌+◌, ◌*◌, ◌<◌, ◌≤◌, Bool, true, false, not, ◌&&◌, ◌||◌, eqb, List, [], ◌∷◌, ◌++◌, map, length, get_or, take, drop, ℤ, pos, ◌≤ℤ◌, None, sym, refl, ap, ◌∙◌, subst, arith}
+use Rattle.std.proofs.Common.{◌≡◌, ℕ, zero, suc, ◌+◌, ◌*◌, ◌<◌, ◌≤◌, Bool, true, false, not, ◌&&◌, ◌||◌, eqb, List, [], ◌∷◌, ◌++◌, map, length, get_or, take, drop, ℤ, pos, ◌≤ℤ◌, IsTrue, is_none, Option, Some, None, sym, refl, ap, ◌∙◌, subst, arith}
 use lib.Signed.{le_z}
 use Rattle.std.specs.List.{range_with_len}
 use Rattle.std.proofs.lemmas.List.FromFn.{get_or-map-range_with_len}
@@ -8,15 +8,18 @@ use Rattle.std.proofs.lemmas.Int.{ints}
 use Rattle.std.proofs.lemmas.Bool.{eqb-true, leb-true}
 use Rattle.std.proofs.lemmas.Bool.Decides.{nat_tests}
 use Rattle.fault.specs.Refusals.{unless}
+use Rattle.fault.specs.declared.Fault.{Fault}
 use Rattle.fault.proofs.Answered.{neither, met}
 use Rattle.file.specs.Entered.{Entered}
-use Rattle.file.specs.File.{TableData, word, offset, header, horizon_of, version_of, file_length, file_fault, header_refusal, entry_refusal, entries_refusal, tables_of, file_of}
+use Rattle.file.specs.File.{TableData, word, offset, header, horizon_of, version_of, file_length, header_refusal, entry_refusal, entries_refusal, tables_of, file_of}
 use Rattle.file.specs.Layout.{rows, size, ahead, Limited, limited, least, greatest, count, index, cell, InTable, place, cells, on_diagonal}
 use Rattle.file.specs.declared.layout.Cell.{Cell}
 use Rattle.file.specs.declared.layout.Table.{Table}
 use Rattle.file.specs.declared.layout.Table.TheVariants.{Weight, Gamma, Upsilon, Unconstrained, Target, Generator}
 use Rattle.file.proofs.Cells.{stands, cells_length, row_above}
 use Rattle.file.proofs.Words.{le4_words}
+use Rattle.fault.specs.Rules.{refused}
+use Rattle.fault.specs.declared.rule.Rule.TheVariants.{EntryLimits, PositiveDiagonal}
 
 -- a header and a length in order
 pub record Headed (b : List ℕ) : Type 0 where
@@ -31,7 +34,11 @@ pub record Headed (b : List ℕ) : Type 0 where
 
 both : (a b : Bool) → (a && b) ≡ true → (a ≡ true) × (b ≡ true)
 both true b e = (refl, e)
-both false b e = absurd (let z : ◌≡◌ {A = ℕ} 0 1 = cc in omega arith)
+both false b e = absurd cc
+
+pub cleared : (o : Option Fault) → IsTrue (is_none o) → o ≡ None
+cleared None h = refl
+cleared (Some f) h = let k : ◌≡◌ {A = Bool} false true = h in cc
 
 pub headed : (b : List ℕ) → header_refusal b ≡ None → Headed b
 headed b e =
@@ -101,14 +108,14 @@ within low high z e = let h = both (le_z low z) (le_z z high) e in (grind (arith
 
 sound_entry : (x : Cell) (at : ℕ) (z : ℤ) → entry_refusal x at z ≡ None → Limited x.table z
 sound_entry x at z e =
-    within (least x.table) (greatest x.table) z (met (limited x.table z) (file_fault 6 at) (neither (unless (limited x.table z) (file_fault 6 at)) (unless (not (on_diagonal x) || le_z (pos 1) z) (file_fault 7 at)) e).0)
+    within (least x.table) (greatest x.table) z (met (limited x.table z) (refused EntryLimits at) (neither (unless (limited x.table z) (refused EntryLimits at)) (unless (not (on_diagonal x) || le_z (pos 1) z) (refused PositiveDiagonal at)) e).0)
 
 positive : (r : ℕ) (z : ℤ) → (not (eqb r r) || le_z (pos 1) z) ≡ true → pos 1 ≤ℤ z
 positive r z e = grind (arith, ints, nat_tests)
 
 sound_diagonal : (r at : ℕ) (z : ℤ) → entry_refusal (cell Generator r r) at z ≡ None → pos 1 ≤ℤ z
 sound_diagonal r at z e =
-    positive r z (met (not (eqb r r) || le_z (pos 1) z) (file_fault 7 at) (neither (unless (limited Generator z) (file_fault 6 at)) (unless (not (eqb r r) || le_z (pos 1) z) (file_fault 7 at)) e).1)
+    positive r z (met (not (eqb r r) || le_z (pos 1) z) (refused PositiveDiagonal at) (neither (unless (limited Generator z) (refused EntryLimits at)) (unless (not (eqb r r) || le_z (pos 1) z) (refused PositiveDiagonal at)) e).1)
 
 -- the entry of a cell, once all are read and none is refused
 module _ (b : List ℕ) (n : ℕ) (es : List ℤ) (owed : entries_refusal (cells n) b 6 ≡ None) (got : Entered b n es (count n)) where

@@ -4,7 +4,7 @@ use Rattle.std.proofs.lemmas.List.FromFn.{length-map-range_with_len, get_or-map-
 use Rattle.std.proofs.lemmas.List.{get_or_append_left, get_or-append-add}
 use Rattle.std.proofs.lemmas.Bool.{cases_lt}
 use Rattle.std.specs.List.{range_with_len}
-use Rattle.file.specs.Layout.{rows, columns, above, size, count, index, cell, CellOf, row_cells, cells}
+use Rattle.file.specs.Layout.{rows, columns, above, size, count, index, cell, row_cells, cells}
 use Rattle.file.specs.declared.layout.Cell.{Cell}
 use Rattle.file.specs.declared.layout.Table.{Table}
 use Rattle.file.specs.declared.layout.Table.TheVariants.{Weight, Gamma, Upsilon, Unconstrained, Target, Generator}
@@ -89,8 +89,3 @@ cells_length n =
     longer Weight n (size Gamma n + (size Upsilon n + (size Unconstrained n + (size Target n + (size Generator n + 0))))) _
     (longer Gamma n _ _ (longer Upsilon n _ _ (longer Unconstrained n _ _ (longer Target n _ _ (longer Generator n 0 [] refl)))))
     ∙ omega arith
-
--- the file has a cell where its index says
-pub listed_there : (n k : ℕ) (x d : Cell) → CellOf n k x → get_or (cells n) k d ≡ x
-listed_there n k x d c =
-    subst (λ (i : ℕ). get_or (cells n) i d ≡ x) c.1 (stands n x.table x.row x.column d c.0.0 c.0.1)

@@ -5,16 +5,22 @@ use Rattle.std.proofs.lemmas.List.FromFn.{get_or-map-range_with_len, length-map-
 use Rattle.std.proofs.lemmas.List.{drop-take, ext_get_or, get_or-drop, get_or-take, length-drop, length-take-le, take-take}
 use Rattle.file.specs.File.{entry}
 use Rattle.file.specs.Layout.{Limited, rows, columns, above, ahead, count, cell, InTable, place}
+use Rattle.file.specs.Places.{cell_of, end_of, entry_of}
 use Rattle.file.specs.Tables.{data_of}
+use Rattle.file.specs.declared.horizon.Horizon.{Horizon}
 use Rattle.file.specs.declared.layout.Cell.{Cell}
 use Rattle.file.specs.declared.layout.Table.{Table}
+use Rattle.file.specs.declared.rows.Place.{Place}
+use Rattle.file.specs.declared.rows.Row.{Row}
 use Rattle.file.specs.declared.tables.Tables.{Tables}
 use Rattle.file.proofs.Accepted.{place_inside, table_inside}
 use Rattle.file.proofs.Cells.{row_above}
 use Rattle.file.proofs.Sizes.{count_bound}
 
-pub row_inside : (n : ℕ) (t : Table) (r : ℕ) → 1 ≤ n → n ≤ 5 → r < rows t n → (ahead t n + above t n r + columns t n r ≤ count n) × (count n ≤ 741)
-row_inside n t r o f h = (omega (arith, row_above t n r (rows t n) h, table_inside t n), count_bound n o f)
+pub row_inside : (r : Row) → (end_of r ≤ count r.horizon.stages) × (count r.horizon.stages ≤ 741)
+row_inside r =
+    let n = r.horizon.stages in
+    (omega (arith, row_above r.table n r.row (rows r.table n) r.there, table_inside r.table n), count_bound n r.horizon.some r.horizon.few)
 
 -- an entry of the tables, read from the array
 pub entry_read : (t : Tables) (x : Cell) (i : ℕ) → InTable t.horizon.stages x → i ≡ place t.horizon.stages x → get_or t.entries i (pos 0) ≡ entry (data_of t) x.table x.row x.column
@@ -25,10 +31,17 @@ entry_read t x i h e =
 pub entry_bound : (t : Tables) (x : Cell) (i : ℕ) → InTable t.horizon.stages x → i ≡ place t.horizon.stages x → Limited x.table (get_or t.entries i (pos 0))
 entry_bound t x i h e = subst (λ (k : ℕ). Limited x.table (get_or t.entries k (pos 0))) (sym e) (t.limited x h)
 
+pub place_bound : (t : Tables) (p : Place) (i : ℕ) (s : Table) → p.row.table ≡ s → p.row.horizon ≡ t.horizon → i ≡ entry_of p → Limited s (get_or t.entries i (pos 0))
+place_bound t p i s e f g =
+    subst (λ (u : Table). Limited u (get_or t.entries i (pos 0))) e
+    (entry_bound t (cell_of p) i
+    (subst (λ (h : Horizon). InTable h.stages (cell_of p)) f (p.row.there, p.within))
+    (subst (λ (h : Horizon). i ≡ place h.stages (cell_of p)) f g))
+
 -- a row of the tables, read from the array
 module _ (t : Tables) (s : Table) (r start m : ℕ) (h : r < rows s t.horizon.stages) (e : start ≡ ahead s t.horizon.stages + above s t.horizon.stages r) (f : m ≡ columns s t.horizon.stages r) where
   fit : start + m ≤ length t.entries
-  fit = omega (arith, row_inside t.horizon.stages s r t.horizon.some t.horizon.few h, t.sized)
+  fit = let n = t.horizon.stages in omega (arith, row_above s n r (rows s n) h, table_inside s n, count_bound n t.horizon.some t.horizon.few, t.sized)
 
   pub row_long : length (take m (drop start t.entries)) ≡ m
   row_long = length-take-le m (drop start t.entries) (omega (arith, length-drop start t.entries, fit))

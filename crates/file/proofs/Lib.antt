@@ -1,6 +1,7 @@
 pub mod Accepted
 pub mod Cells
 pub mod Inside
+pub mod Places
 pub mod Reading
 pub mod Sizes
 pub mod Walk

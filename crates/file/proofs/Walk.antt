@@ -7,7 +7,7 @@ use Rattle.file.specs.declared.layout.Cell.{Cell}
 use Rattle.file.specs.declared.layout.Table.{Table}
 use Rattle.file.specs.declared.layout.Table.TheVariants.{Weight, Gamma, Upsilon, Unconstrained, Target, Generator}
 
-some_column : (t : Table) (n r : ℕ) → 1 ≤ n → 0 < columns t n r
+pub some_column : (t : Table) (n r : ℕ) → 1 ≤ n → 0 < columns t n r
 some_column Weight n r h = omega arith
 some_column Gamma n r h = omega arith
 some_column Upsilon n r h = omega arith
@@ -15,7 +15,7 @@ some_column Unconstrained n r h = omega arith
 some_column Target n r h = omega arith
 some_column Generator n r h = omega arith
 
-some_row : (t : Table) (n : ℕ) → 1 ≤ n → 0 < rows t n
+pub some_row : (t : Table) (n : ℕ) → 1 ≤ n → 0 < rows t n
 some_row Weight n h = omega arith
 some_row Gamma n h = omega arith
 some_row Upsilon n h = omega arith
@@ -47,7 +47,7 @@ follows Unconstrained n h = refl
 follows Target n h = refl
 follows Generator n h = absurd (omega arith)
 
-ends : (t : Table) (n r c : ℕ) → r < rows t n → rows t n ≤ r + 1 → c < columns t n r → columns t n r ≤ c + 1 → index t n r c + 1 ≡ ahead t n + size t n
+pub ends : (t : Table) (n r c : ℕ) → r < rows t n → rows t n ≤ r + 1 → c < columns t n r → columns t n r ≤ c + 1 → index t n r c + 1 ≡ ahead t n + size t n
 ends t n r c h j k l =
     let e : rows t n ≡ suc r = omega arith in
     let f : index t n r c + 1 ≡ ahead t n + (above t n r + columns t n r) = omega arith in

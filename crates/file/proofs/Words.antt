@@ -1,12 +1,9 @@
 -- Four bytes and the number that they are.
-use Rattle.std.proofs.Common.{◌≡◌, ℕ, zero, suc, ◌+◌, ◌-◌, ◌*◌, ◌/◌, ◌%◌, ◌^◌, ◌<◌, ◌≤◌, List, [], ◌∷◌, ◌++◌, map, length, get_or, take, drop, ℤ, pos, negsuc, sym, refl, ap, ◌∙◌, subst, arith, take-add, w32, SFits, to_z, of_z}
-use borrow.Rule.Slice.PartMut.{put_mid}
+use Rattle.std.proofs.Common.{◌≡◌, ℕ, zero, suc, ◌+◌, ◌*◌, ◌/◌, ◌%◌, ◌^◌, ◌<◌, ◌≤◌, List, [], ◌∷◌, ◌++◌, map, length, get_or, take, drop, ℤ, pos, negsuc, sym, refl, ap, ◌∙◌, subst, arith, take-add, w32, SFits, to_z, of_z}
 use Rattle.std.specs.List.{range_with_len, flat_map}
 use Rattle.std.proofs.lemmas.Nat.{div-mul-add, mod-mul-add, shr-shr, shr_below, div-add-mod'}
 use Rattle.std.proofs.lemmas.List.FromFn.{map-range_with_len_more}
 use Rattle.std.proofs.lemmas.List.{drop_more, drop-drop, flat_map_more, length-append}
-use Rattle.std.proofs.lemmas.List.Edits.{paste_all}
-use Rattle.std.proofs.lemmas.Slice.{put_mid-paste}
 use Rattle.std.proofs.lemmas.Int.{of_z-to_z, to_z-of_z}
 use Rattle.file.specs.File.{le4, word, offset, header}
 
@@ -118,8 +115,3 @@ word_written n zs k h f = word_past n (flat_map le4 zs) (offset k) (4 * k) (omeg
 pub words_length : (zs : List ℤ) → length (flat_map le4 zs) ≡ 4 * length zs
 words_length [] = refl
 words_length (z ∷ zs) = omega (arith, length-append (le4 z) (flat_map le4 zs), words_length zs)
-
--- a buffer after a number's four bytes were copied to a part of it
-pub word_put : (at : ℕ) (xs ys : List ℕ) (z : ℤ) → SFits w32 z → ys ≡ le4 (to_z w32 (of_z w32 z)) → put_mid at (at + 4 - at) xs ys ≡ take at xs ++ (le4 z ++ drop (at + 4) xs)
-word_put at xs ys z f e =
-    put_mid-paste at (at + 4 - at) xs ys (le4 z) 4 (e ∙ ap le4 (to_z-of_z w32 z f)) (omega arith) refl ∙ paste_all xs at (le4 z) 4 refl

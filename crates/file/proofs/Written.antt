@@ -3,14 +3,14 @@ use Rattle.std.proofs.Common.{◌≡◌, ℕ, suc, ◌+◌, ◌*◌, ◌<◌, Bo
 use lib.Signed.{le_z}
 use Rattle.std.specs.List.{range_with_len, flat_map}
 use Rattle.std.proofs.lemmas.List.FromFn.{get_or-map-range_with_len, length-map-range_with_len}
-use Rattle.std.proofs.lemmas.List.{append_assoc, drop_at, drop-drop, ext_get_or, get_or-take, flat_map_more, length-append, length-take-le, take_at, take_more}
+use Rattle.std.proofs.lemmas.List.{append_assoc, drop_at, drop-drop, ext_get_or, get_or-take, flat_map_more, length-append, length-take-le, take_all, take_at, take_more}
 use Rattle.std.proofs.lemmas.Slice.{drop-append-drop}
 use Rattle.std.proofs.lemmas.Int.{ints}
 use Rattle.std.proofs.lemmas.Bool.{eqb-true, le-leb}
 use Rattle.std.proofs.lemmas.Bool.Decides.{nat_tests}
 use Rattle.fault.specs.Refusals.{first_some, unless}
 use Rattle.fault.specs.declared.Fault.{Fault}
-use Rattle.file.specs.File.{TableData, Sound, entry, le4, word, offset, header, file_length, file_of, file_fault, header_refusal, entry_refusal, entries_refusal, file_refusal, tables_of}
+use Rattle.file.specs.File.{TableData, Sound, entry, le4, word, offset, header, file_length, file_of, header_refusal, entry_refusal, entries_refusal, file_refusal, tables_of}
 use Rattle.file.specs.Layout.{rows, Limited, limited, least, greatest, count, index, cell, CellOf, cells, on_diagonal, is_generator}
 use Rattle.file.specs.Tables.{Written, data_of}
 use Rattle.file.specs.declared.layout.Cell.{Cell}
@@ -22,6 +22,8 @@ use Rattle.file.proofs.Cells.{cells_length}
 use Rattle.file.proofs.Sizes.{count_bound}
 use Rattle.file.proofs.Walk.{each_cell}
 use Rattle.file.proofs.Words.{word_written, words_length}
+use Rattle.fault.specs.Rules.{refused}
+use Rattle.fault.specs.declared.rule.Rule.TheVariants.{EntryLimits, PositiveDiagonal}
 
 -- tables as a value of the type has them are sound
 pub sound_data : (t : Tables) → Sound (data_of t)
@@ -45,7 +47,7 @@ limits_fit Generator z h = omega (arith, ints)
 
 clear : (b : Bool) (f : Fault) → b ≡ true → unless b f ≡ None
 clear true f e = refl
-clear false f e = absurd (let z : ◌≡◌ {A = ℕ} 0 1 = cc in omega arith)
+clear false f e = absurd cc
 
 limited_true : (low high z : ℤ) → low ≤ℤ z → z ≤ℤ high → (le_z low z && le_z z high) ≡ true
 limited_true low high z h k = grind (arith, ints, nat_tests)
@@ -56,9 +58,9 @@ diagonal_true false z h = refl
 
 entry_kept : (x : Cell) (at : ℕ) (z : ℤ) → Limited x.table z → (on_diagonal x ≡ true → pos 1 ≤ℤ z) → entry_refusal x at z ≡ None
 entry_kept x at z l d =
-    ap (λ (p : Option Fault). first_some p (unless (not (on_diagonal x) || le_z (pos 1) z) (file_fault 7 at)))
-    (clear (limited x.table z) (file_fault 6 at) (limited_true (least x.table) (greatest x.table) z l.0 l.1))
-    ∙ clear (not (on_diagonal x) || le_z (pos 1) z) (file_fault 7 at) (diagonal_true (on_diagonal x) z d)
+    ap (λ (p : Option Fault). first_some p (unless (not (on_diagonal x) || le_z (pos 1) z) (refused PositiveDiagonal at)))
+    (clear (limited x.table z) (refused EntryLimits at) (limited_true (least x.table) (greatest x.table) z l.0 l.1))
+    ∙ clear (not (on_diagonal x) || le_z (pos 1) z) (refused PositiveDiagonal at) (diagonal_true (on_diagonal x) z d)
 
 all_kept : (xs : List Cell) (b : List ℕ) (at : ℕ) (d : Cell) → ((i : ℕ) → i < length xs → entry_refusal (get_or xs i d) (at + 4 * i) (word b (at + 4 * i)) ≡ None) → entries_refusal xs b at ≡ None
 all_kept [] b at d h = refl
@@ -99,11 +101,11 @@ module _ (d : TableData) (s : Sound d) where
   diagonal_kept x h e = on_it x.table x.row x.column h e
     where
       on_it : (t : Table) (r c : ℕ) → r < rows t d.horizon → (is_generator t && eqb r c) ≡ true → pos 1 ≤ℤ entry d t r c
-      on_it Weight r c h e = absurd (let z : ◌≡◌ {A = ℕ} 0 1 = cc in omega arith)
-      on_it Gamma r c h e = absurd (let z : ◌≡◌ {A = ℕ} 0 1 = cc in omega arith)
-      on_it Upsilon r c h e = absurd (let z : ◌≡◌ {A = ℕ} 0 1 = cc in omega arith)
-      on_it Unconstrained r c h e = absurd (let z : ◌≡◌ {A = ℕ} 0 1 = cc in omega arith)
-      on_it Target r c h e = absurd (let z : ◌≡◌ {A = ℕ} 0 1 = cc in omega arith)
+      on_it Weight r c h e = absurd cc
+      on_it Gamma r c h e = absurd cc
+      on_it Upsilon r c h e = absurd cc
+      on_it Unconstrained r c h e = absurd cc
+      on_it Target r c h e = absurd cc
       on_it Generator r c h e = subst (λ (k : ℕ). pos 1 ≤ℤ entry d Generator r k) (eqb-true r c e) (s.diagonal r h)
 
   entries_kept : entries_refusal (cells d.horizon) (file_of d) 6 ≡ None
@@ -144,13 +146,17 @@ word_more n es k z was out next h o e is =
     cc
 
 -- all of them
-pub whole : (t : Tables) (was headed out : List ℕ) (k : ℕ) → k ≡ count t.horizon.stages → headed ≡ header t.horizon.stages ++ drop 6 was → out ≡ (header t.horizon.stages ++ flat_map le4 (take k t.entries)) ++ drop (offset k) headed → Written (data_of t) was out (file_length t.horizon.stages)
+pub whole : (t : Tables) (was headed out : List ℕ) (k : ℕ) → k ≡ count t.horizon.stages → headed ≡ header t.horizon.stages ++ drop 6 was → out ≡ (header t.horizon.stages ++ flat_map le4 (take k (data_of t).entries)) ++ drop (offset k) headed → Written (data_of t) was out (file_length t.horizon.stages)
 whole t was headed out k e h o =
     let n = t.horizon.stages in
     let s = sound_data t in
-    let at : offset k ≡ file_length n = omega arith in
+    let all : take k (data_of t).entries ≡ (data_of t).entries = take_all k (data_of t).entries (omega (arith, s.sized)) in
     let past : drop (file_length n) headed ≡ drop (file_length n) was = ap (drop (file_length n)) h ∙ drop-append-drop 6 was (header n) (file_length n) (omega arith) refl in
-    let bytes : out ≡ file_of (data_of t) ++ drop (file_length n) was = o ∙ ap (λ (i : ℕ). (header n ++ flat_map le4 (take i t.entries)) ++ drop (offset i) headed) e ∙ ap (λ (l : List ℕ). file_of (data_of t) ++ l) past in
+    let bytes : out ≡ file_of (data_of t) ++ drop (file_length n) was =
+    o
+    ∙ ap (λ (zs : List ℤ). (header n ++ flat_map le4 zs) ++ drop (offset k) headed) all
+    ∙ ap (λ (i : ℕ). file_of (data_of t) ++ drop (offset i) headed) e
+    ∙ ap (λ (l : List ℕ). file_of (data_of t) ++ l) past in
     let front : take (file_length n) out ≡ file_of (data_of t) = ap (take (file_length n)) bytes ∙ take_at (file_of (data_of t)) (drop (file_length n) was) (file_length n) (file_sized (data_of t) s) in
     record {
       whole = refl;

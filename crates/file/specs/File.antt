@@ -1,15 +1,15 @@
 -- What the bytes of a table file mean: a refusal with its number and place, or tables.
-use Rattle.std.specs.Prelude.{◌≡◌, ℕ, ◌+◌, ◌*◌, ◌/◌, ◌%◌, ◌<◌, ◌≤◌, Bool, cond, not, ◌&&◌, ◌||◌, List, [], ◌∷◌, ◌++◌, map, length, take, drop, ℤ, pos, ◌≤ℤ◌, Some, None, Option, ◌==◌, int_le, nat_le, nat_lt, slice_index, slice_index_or}
-use Rattle.std.specs.Int.{w32}
-use Rattle.std.proofs.Common.{to_z, of_z}
+use Rattle.std.specs.Prelude.{◌≡◌, ℕ, ◌+◌, ◌*◌, ◌/◌, ◌%◌, ◌<◌, ◌≤◌, Bool, if◌then◌else◌, not, ◌&&◌, ◌||◌, List, [], ◌∷◌, ◌++◌, map, length, take, drop, ℤ, pos, ◌≤ℤ◌, Some, None, Option, ◌==◌, int_le, nat_le, nat_lt, slice_index, slice_index_or}
+use Rattle.std.specs.Int.{w32, cast_signed, cast_unsigned}
 use Rattle.std.specs.List.{range_with_len, flat_map}
 use Rattle.fault.specs.Refusals.{first_some, unless}
 use Rattle.fault.specs.declared.Fault.{Fault}
-use Rattle.fault.specs.declared.Layer.TheVariants.{File}
 use Rattle.file.specs.Layout.{rows, columns, size, ahead, Limited, limited, count, index, cells, on_diagonal}
 use Rattle.file.specs.declared.layout.Cell.{Cell}
 use Rattle.file.specs.declared.layout.Table.{Table}
 use Rattle.file.specs.declared.layout.Table.TheVariants.{Generator}
+use Rattle.fault.specs.Rules.{refused}
+use Rattle.fault.specs.declared.rule.Rule.TheVariants.{HeaderBytes, FileMark, FileVersion, FileHorizon, FileLength, EntryLimits, PositiveDiagonal}
 
 -- A plant's tables as data: for how many stages they plan, and their entries in the order of the file.
 pub record TableData : Type 0 where
@@ -29,11 +29,11 @@ pub record Sound (d : TableData) : Type 0 where
 
 -- a number in four bytes, the lowest first, negative ones in two's complement
 abbrev pub le4 : ℤ → List ℕ
-le4 z = (of_z w32 z % 256) ∷ ((of_z w32 z / 256 % 256) ∷ ((of_z w32 z / 65536 % 256) ∷ ((of_z w32 z / 16777216 % 256) ∷ [])))
+le4 z = (cast_unsigned w32 z % 256) ∷ ((cast_unsigned w32 z / 256 % 256) ∷ ((cast_unsigned w32 z / 65536 % 256) ∷ ((cast_unsigned w32 z / 16777216 % 256) ∷ [])))
 
 -- the number whose four bytes begin at an offset
 abbrev pub word : List ℕ → ℕ → ℤ
-word b at = to_z w32 (slice_index b at + slice_index b (at + 1) * 256 + slice_index b (at + 2) * 65536 + slice_index b (at + 3) * 16777216)
+word b at = cast_signed w32 (slice_index b at + slice_index b (at + 1) * 256 + slice_index b (at + 2) * 65536 + slice_index b (at + 3) * 16777216)
 
 -- the version of the file
 abbrev pub version_number : ℕ
@@ -67,22 +67,19 @@ horizon_of b = slice_index b 5
 abbrev pub tables_of : List ℕ → TableData
 tables_of b = record { horizon = horizon_of b; entries = map (λ k. word b (offset k)) (range_with_len 0 (count (horizon_of b))) }
 
-abbrev pub file_fault : ℕ → ℕ → Fault
-file_fault number place = record { layer = File; number = number; place = place }
-
 -- what is wrong with the header or the length
 abbrev pub header_refusal : List ℕ → Option Fault
 header_refusal b =
-    first_some (unless (nat_le 6 (length b)) (file_fault 1 (length b)))
-    (first_some (unless (marked b) (file_fault 2 0))
-    (first_some (unless (version_of b == version_number) (file_fault 3 3))
-    (first_some (unless (nat_le 1 (horizon_of b) && nat_le (horizon_of b) 5) (file_fault 4 5))
-    (unless (length b == file_length (horizon_of b)) (file_fault 5 (length b))))))
+    first_some (unless (nat_le 6 (length b)) (refused HeaderBytes (length b)))
+    (first_some (unless (marked b) (refused FileMark 0))
+    (first_some (unless (version_of b == version_number) (refused FileVersion 3))
+    (first_some (unless (nat_le 1 (horizon_of b) && nat_le (horizon_of b) 5) (refused FileHorizon 5))
+    (unless (length b == file_length (horizon_of b)) (refused FileLength (length b))))))
 
 -- what is wrong with the entry z of the cell x, at its offset: outside its table's limits, or under 1 on the generator's diagonal
 abbrev pub entry_refusal : Cell → ℕ → ℤ → Option Fault
 entry_refusal x at z =
-    first_some (unless (limited x.table z) (file_fault 6 at)) (unless (not (on_diagonal x) || int_le (pos 1) z) (file_fault 7 at))
+    first_some (unless (limited x.table z) (refused EntryLimits at)) (unless (not (on_diagonal x) || int_le (pos 1) z) (refused PositiveDiagonal at))
 
 -- the first thing wrong with the entries of some cells, by rising offset
 abbrev pub entries_refusal : List Cell → List ℕ → ℕ → Option Fault
@@ -95,10 +92,10 @@ file_refusal b = first_some (header_refusal b) (entries_refusal (cells (horizon_
 
 -- a reading of one entry, and of one row by columns; nothing where the table has no such cell or row
 abbrev pub entry_reading : TableData → Table → ℕ → ℕ → Option ℤ
-entry_reading d t r c = cond (nat_lt r (rows t d.horizon) && nat_lt c (columns t d.horizon r)) (Some (entry d t r c)) None
+entry_reading d t r c = if nat_lt r (rows t d.horizon) && nat_lt c (columns t d.horizon r) then Some (entry d t r c) else None
 
 abbrev pub row_reading : TableData → Table → ℕ → List ℤ
-row_reading d t r = cond (nat_lt r (rows t d.horizon)) (map (entry d t r) (range_with_len 0 (columns t d.horizon r))) []
+row_reading d t r = if nat_lt r (rows t d.horizon) then map (entry d t r) (range_with_len 0 (columns t d.horizon r)) else []
 
 -- a reading of all entries of a table: its part of the file
 abbrev pub table_reading : TableData → Table → List ℤ

@@ -1,10 +1,19 @@
 -- The layout of a table file for a horizon of n stages: which tables, of which shape, in which order, within which limits.
 -- Rows, columns and entries are numbered from 0.
-use Rattle.std.specs.Prelude.{◌≡◌, ℕ, zero, suc, ◌+◌, ◌*◌, ◌<◌, Bool, true, false, ◌&&◌, List, [], ◌∷◌, ◌++◌, map, ℤ, pos, neg_ℤ, ◌≤ℤ◌, ◌==◌, int_le}
+use Rattle.std.specs.Prelude.{◌≡◌, ℕ, zero, suc, ◌+◌, ◌*◌, ◌<◌, Bool, true, false, ◌&&◌, List, [], ◌∷◌, ◌++◌, map, ℤ, pos, neg_ℤ, ◌≤ℤ◌, ◌==◌, int_le, codes}
 use Rattle.std.specs.List.{range_with_len, flat_map}
 use Rattle.file.specs.declared.layout.Cell.{Cell}
 use Rattle.file.specs.declared.layout.Table.{Table}
 use Rattle.file.specs.declared.layout.Table.TheVariants.{Weight, Gamma, Upsilon, Unconstrained, Target, Generator}
+
+-- the letter of a table in the documents; Γ and Υ take two bytes
+abbrev pub letter : Table → List ℕ
+letter Weight = codes "w"
+letter Gamma = 206 ∷ (147 ∷ [])
+letter Upsilon = 206 ∷ (165 ∷ [])
+letter Unconstrained = codes "P"
+letter Target = codes "T"
+letter Generator = codes "V"
 
 -- how many rows a table has
 abbrev pub rows : Table → ℕ → ℕ

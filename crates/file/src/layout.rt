@@ -1,10 +1,13 @@
 // Which tables a file has, in which order, of which shape and within which limits.
-ghost use Rattle.std.specs.Prelude.{◌≡◌, ℕ, ◌+◌, ◌*◌, ◌<◌, ◌≤◌, length, IfSome, MatchOption, ◌≢◌, slice_index_or};
+ghost use Rattle.std.specs.Prelude.{Some, ◌≡◌, ℕ, ◌+◌, ◌<◌, ◌≤◌, length, IfSome, MatchOption, ◌≢◌, slice_index_or};
 ghost use Rattle.file.specs.File.{offset};
-ghost use Rattle.file.specs.Layout.{CellOf, InTable, columns as columns_of, count as count_of, following as following_of, above as above_of, ahead as ahead_of, cells as cells_of, greatest as greatest_entry, place as place_of, limited as is_limited, least as least_entry, on_diagonal, rows as rows_of, size as size_of};
+ghost use Rattle.file.specs.Layout.{CellOf, InTable, count as count_of, following as following_of, ahead as ahead_of, cells as cells_of, greatest as greatest_entry, place as place_of, limited as is_limited, least as least_entry, letter as letter_of, on_diagonal, rows as rows_of, size as size_of};
 
 use crate::header::{ENTRY_BYTES, HEADER_BYTES};
 use crate::horizon::Horizon;
+use crate::rows::Cells;
+use std::fmt;
+use std::ops::Range;
 
 // The tables, in the order in which a file has them.
 #[derive(Clone, Copy, PartialEq, Eq, Debug)]
@@ -23,6 +26,14 @@ pub enum Table {
     Generator,
 }
 
+impl fmt::Display for Table {
+    ghost output = { λ t. Some (letter_of t) };
+
+    fn fmt<W: fmt::Write>(&self, f: &mut fmt::Formatter<W>) -> fmt::Result {
+        f.pad(self.letter())
+    }
+}
+
 // One entry's place in a table.
 #[derive(Clone, Copy, PartialEq, Eq, Debug)]
 pub struct Cell {
@@ -32,6 +43,20 @@ pub struct Cell {
 }
 
 impl Table {
+    // The letter of the table in the documents.
+    pub fn letter(self) -> &'static str
+        ensures { result.now ≡ letter_of self }
+    {
+        match self {
+            Table::Weight => "w",
+            Table::Gamma => "Γ",
+            Table::Upsilon => "Υ",
+            Table::Unconstrained => "P",
+            Table::Target => "T",
+            Table::Generator => "V",
+        }
+    }
+
     // The least value that an entry of the table may have.
     pub fn least(self) -> i32
         ensures { result ≡ least_entry self }
@@ -64,7 +89,7 @@ impl Table {
     pub fn limits(self, value: i32) -> bool
         ensures { result ≡ is_limited self value }
     {
-        self.least() <= value && value <= self.greatest()
+        (self.least()..=self.greatest()).contains(&value)
     }
 
     // How many rows the table has.
@@ -75,19 +100,6 @@ impl Table {
             Table::Weight => 1,
             Table::Gamma | Table::Upsilon => 2 * horizon.stages(),
             Table::Unconstrained | Table::Target | Table::Generator => 3 * horizon.stages(),
-        }
-    }
-
-    // How many columns one of its rows has.
-    pub(crate) fn columns(self, horizon: Horizon, row: usize) -> usize
-        requires { row < rows_of self horizon.stages }
-        ensures { result ≡ columns_of self horizon.stages row }
-    {
-        match self {
-            Table::Weight => 1,
-            Table::Gamma => 2,
-            Table::Upsilon | Table::Unconstrained | Table::Target => 3 * horizon.stages(),
-            Table::Generator => row + 1,
         }
     }
 
@@ -106,41 +118,8 @@ impl Table {
         }
     }
 
-    // How many entries the table has above one of its rows.
-    pub(crate) fn above(self, horizon: Horizon, row: usize) -> usize
-        requires { row < rows_of self horizon.stages }
-        ensures { result ≡ above_of self horizon.stages row }
-    {
-        match self {
-            Table::Generator => row * (row + 1) / 2,
-            _ => row * self.columns(horizon, row),
-        }
-    }
-}
-
-// Where a row's entries stand among those of a file.
-#[derive(Clone, Copy)]
-pub(crate) struct Span {
-    pub(crate) start: usize,
-    pub(crate) end: usize,
-}
-
-impl Table {
-    // Where the entries of a row stand.
-    pub(crate) fn span(self, horizon: Horizon, row: usize) -> Span
-        requires { row < rows_of self horizon.stages }
-        ensures start { result.start ≡ ahead_of self horizon.stages + above_of self horizon.stages row }
-        ensures end { result.end ≡ result.start + columns_of self horizon.stages row }
-        ensures inside { result.end ≤ count_of horizon.stages }
-        ensures bound { result.end ≤ 741 }
-    {
-        let start = self.ahead(horizon) + self.above(horizon, row);
-        let end = start + self.columns(horizon, row);
-        Span { start, end }
-    }
-
     // Where the entries of the whole table stand.
-    pub(crate) fn whole(self, horizon: Horizon) -> Span
+    pub(crate) fn whole(self, horizon: Horizon) -> Range<usize>
         ensures start { result.start ≡ ahead_of self horizon.stages }
         ensures end { result.end ≡ result.start + size_of self horizon.stages }
         ensures inside { result.end ≤ count_of horizon.stages }
@@ -151,11 +130,11 @@ impl Table {
             Table::Generator => count(horizon),
             _ => self.following().ahead(horizon),
         };
-        Span { start, end }
+        start..end
     }
 
     // The table behind this one in the file, or this one where it is the last.
-    fn following(self) -> Table
+    pub(crate) fn following(self) -> Table
         ensures { result ≡ following_of self }
     {
         match self {
@@ -178,53 +157,11 @@ pub(crate) fn count(horizon: Horizon) -> usize
 }
 
 impl Cell {
-    // The cell of a file's first entry.
-    pub(crate) const FIRST: Cell = Cell {
-        table: Table::Weight,
-        row: 0,
-        column: 0,
-    };
-
     // Whether it lies on the generator's diagonal.
     pub fn is_on_diagonal(self) -> bool
         ensures { result ≡ on_diagonal self }
     {
         self.table == Table::Generator && self.row == self.column
-    }
-
-    // Which entry of the file it has.
-    pub(crate) fn index(self, horizon: Horizon) -> usize
-        requires { InTable horizon.stages self }
-        ensures value { result ≡ place_of horizon.stages self }
-        ensures bound { result < 741 }
-    {
-        self.table.span(horizon, self.row).start + self.column
-    }
-
-    // The cell of the entry behind this one's; any cell behind the last.
-    pub(crate) fn next(self, horizon: Horizon) -> Cell
-        requires { InTable horizon.stages self }
-        ensures { place_of horizon.stages self + 1 < count_of horizon.stages → CellOf horizon.stages (place_of horizon.stages self + 1) result }
-    {
-        if self.column + 1 < self.table.columns(horizon, self.row) {
-            return Cell {
-                table: self.table,
-                row: self.row,
-                column: self.column + 1,
-            };
-        }
-        if self.row + 1 < self.table.rows(horizon) {
-            return Cell {
-                table: self.table,
-                row: self.row + 1,
-                column: 0,
-            };
-        }
-        Cell {
-            table: self.table.following(),
-            row: 0,
-            column: 0,
-        }
     }
 
     // The cell of an entry of the file, where the file has that entry.
@@ -233,14 +170,7 @@ impl Cell {
         ensures listed { IfSome result (λ x. (d : Cell) → slice_index_or (cells_of horizon.stages) entry d ≡ x) }
         ensures counted { length (cells_of horizon.stages) ≡ count_of horizon.stages }
     {
-        if entry >= count(horizon) {
-            return None;
-        }
-        let mut cell = Cell::FIRST;
-        for _i in 0..entry {
-            cell = cell.next(horizon);
-        }
-        Some(cell)
+        Cells::of(horizon).nth(entry)
     }
 }
 
@@ -248,8 +178,9 @@ impl Cell {
 pub fn cell_at_offset(horizon: Horizon, at: usize) -> Option<Cell>
     ensures { MatchOption result ((k : ℕ) → k < count_of horizon.stages → offset k ≢ at) (λ x. InTable horizon.stages x × (offset (place_of horizon.stages x) ≡ at)) }
 {
-    if at < HEADER_BYTES || (at - HEADER_BYTES) % ENTRY_BYTES != 0 {
+    let past = at.checked_sub(HEADER_BYTES)?;
+    if past % ENTRY_BYTES != 0 {
         return None;
     }
-    Cell::at(horizon, (at - HEADER_BYTES) / ENTRY_BYTES)
+    Cell::at(horizon, past / ENTRY_BYTES)
 }

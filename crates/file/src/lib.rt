@@ -4,5 +4,6 @@
 mod header;
 pub mod horizon;
 pub mod layout;
-mod refusal;
+mod rows;
+pub mod stored;
 pub mod tables;

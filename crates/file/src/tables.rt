@@ -10,7 +10,7 @@ mod reading;
 mod readings;
 mod writing;
 
-pub use reading::read;
+pub use reading::{read, word_at};
 
 // The entries of a file of the longest horizon.
 const MOST_ENTRIES: usize = 741;

@@ -3,9 +3,11 @@
 
 #[cfg(test)]
 mod tests {
-    use fault::{Fault, Layer};
+    use fault::Layer;
+    use file::stored::{MOST_BYTES, NAME, front};
     use file::tables::{Tables, read};
     use std::alloc::{AllocError, Global};
+    use std::fs;
     use std::process::Abort;
     use std::test::Fail;
 
@@ -29,16 +31,10 @@ mod tests {
 
     // A file of zeros but for ones on the diagonal of V.
     fn plain(heap: Global, n: u8) -> Result<Vec<u8>, AllocError> {
-        let mut file = Vec::new(heap);
-        for b in [83, 68, 84, 1, 0, n] {
-            file.push(b)?;
-        }
-        let size = sizes(n as usize);
-        let others = size[0]
-            .saturating_add(size[1])
-            .saturating_add(size[2])
-            .saturating_add(size[3])
-            .saturating_add(size[4]);
+        let mut file = vec![in heap; 83, 68, 84, 1, 0, n]?;
+        let others = sizes(n as usize)[..5]
+            .iter()
+            .fold(0usize, |sum, size| sum.saturating_add(*size));
         for _ in 0..others {
             push_word(&mut file, 0)?;
         }
@@ -53,40 +49,27 @@ mod tests {
     }
 
     fn push_word(file: &mut Vec<u8>, value: i32) -> Result<(), AllocError> {
-        for b in value.to_le_bytes() {
-            file.push(b)?;
-        }
-        Ok(())
+        file.extend_from_slice(&value.to_le_bytes())
     }
 
     // The file with another number at an offset.
-    fn changed(heap: Global, file: &Vec<u8>, at: usize, value: i32) -> Result<Vec<u8>, AllocError> {
-        let mut copy = Vec::new(heap);
-        let word = value.to_le_bytes();
-        for (i, b) in file.iter().enumerate() {
-            let j = i.wrapping_sub(at);
-            if j < 4 {
-                copy.push(word[j])?;
-            } else {
-                copy.push(*b)?;
-            }
+    fn changed(file: &Vec<u8>, at: usize, value: i32) -> Result<Vec<u8>, AllocError> {
+        let mut copy = file.clone()?;
+        for (byte, new) in copy.iter_mut().skip(at).zip(value.to_le_bytes()) {
+            *byte = new;
         }
         Ok(copy)
     }
 
-    fn refused(bytes: &[u8]) -> Option<Fault> {
-        match read(bytes) {
-            Ok(_) => None,
-            Err(f) => Some(f),
-        }
+    // A refusal's layer, number and place.
+    type Refusal = (Layer, u8, usize);
+
+    fn refused(bytes: &[u8]) -> Option<Refusal> {
+        read(bytes).err().map(|f| (f.layer(), f.number(), f.place))
     }
 
-    fn file_fault(number: u8, place: usize) -> Option<Fault> {
-        Some(Fault {
-            layer: Layer::File,
-            number,
-            place,
-        })
+    fn file_fault(number: u8, place: usize) -> Option<Refusal> {
+        Some((Layer::File, number, place))
     }
 
     #[test]
@@ -106,13 +89,12 @@ mod tests {
         for n in 1u8..6 {
             let file = plain(rt.alloc(), n)?;
             let mut first = 6usize;
-            for t in 0..6usize {
-                let size = sizes(n as usize)[t];
+            for (t, size) in sizes(n as usize).iter().enumerate() {
                 let last = first
                     .saturating_add(size.saturating_mul(4))
                     .saturating_sub(4);
                 for at in [first, last] {
-                    edges(&rt, rt.alloc(), &file, at, LEAST[t], GREATEST[t], t == 5)?;
+                    edges(&rt, &file, at, LEAST[t], GREATEST[t], t == 5)?;
                 }
                 first = last.saturating_add(4);
             }
@@ -123,32 +105,28 @@ mod tests {
 
     fn edges(
         rt: &impl Abort,
-        heap: Global,
         file: &Vec<u8>,
         at: usize,
         least: i32,
         greatest: i32,
         diagonal: bool,
     ) -> Result<(), Fail> {
-        assert_eq!(rt; refused(&changed(heap, file, at, greatest)?), None);
+        assert_eq!(rt; refused(&changed(file, at, greatest)?), None);
         assert_eq!(rt;
-            refused(&changed(heap, file, at, greatest.saturating_add(1))?),
+            refused(&changed(file, at, greatest.saturating_add(1))?),
             file_fault(6, at)
         );
         assert_eq!(rt;
-            refused(&changed(heap, file, at, least.saturating_sub(1))?),
+            refused(&changed(file, at, least.saturating_sub(1))?),
             file_fault(6, at)
         );
         if diagonal {
-            assert_eq!(rt; refused(&changed(heap, file, at, 0)?), file_fault(7, at));
-            assert_eq!(rt;
-                refused(&changed(heap, file, at, least)?),
-                file_fault(7, at)
-            );
-            assert_eq!(rt; refused(&changed(heap, file, at, 1)?), None);
+            assert_eq!(rt; refused(&changed(file, at, 0)?), file_fault(7, at));
+            assert_eq!(rt; refused(&changed(file, at, least)?), file_fault(7, at));
+            assert_eq!(rt; refused(&changed(file, at, 1)?), None);
             return Ok(());
         }
-        assert_eq!(rt; refused(&changed(heap, file, at, least)?), None);
+        assert_eq!(rt; refused(&changed(file, at, least)?), None);
         Ok(())
     }
 
@@ -176,13 +154,13 @@ mod tests {
     #[test]
     fn lowest_offset_first(rt: HostRuntime) -> Result<(), Fail> {
         let file = plain(rt.alloc(), 2)?;
-        let late = changed(rt.alloc(), &file, 10, 9000)?;
-        let both = changed(rt.alloc(), &late, 6, -1)?;
+        let late = changed(&file, 10, 9000)?;
+        let both = changed(&late, 6, -1)?;
         assert_eq!(rt; refused(&both), file_fault(6, 6));
         assert_eq!(rt; refused(&late), file_fault(6, 10));
         let end = file.len().saturating_sub(4);
         assert_eq!(rt;
-            refused(&changed(rt.alloc(), &file, end, -1048577)?),
+            refused(&changed(&file, end, -1048577)?),
             file_fault(6, end)
         );
         Ok(())
@@ -191,13 +169,11 @@ mod tests {
     #[test]
     fn writes_back(rt: HostRuntime) -> Result<(), Fail> {
         let plain_file = plain(rt.alloc(), 5)?;
-        let file = changed(rt.alloc(), &plain_file, 1234, -4096)?;
+        let file = changed(&plain_file, 1234, -4096)?;
         let tables = read(&file)?;
         let mut short = vec![in rt.alloc(); 7u8; 2969]?;
         assert_eq!(rt; needed(&tables, &mut short), 2970);
-        for b in &short {
-            assert_eq!(rt; *b, 7);
-        }
+        assert!(rt; short.iter().all(|b| *b == 7));
         let mut out = vec![in rt.alloc(); 7u8; 2972]?;
         assert_eq!(rt; needed(&tables, &mut out), 0);
         assert!(rt; out.len() == 2972);
@@ -206,11 +182,23 @@ mod tests {
         Ok(())
     }
 
+    // What is stored is read back, as far as the buffer goes; no file is no bytes.
+    #[test]
+    fn stored(rt: HostRuntime) -> Result<(), Fail> {
+        let file = plain(rt.alloc(), 5)?;
+        assert!(rt; file.len() == 2970);
+        fs::write(&rt, NAME, file.as_slice())?;
+        let mut buffer = [0u8; MOST_BYTES];
+        assert!(rt; front(&rt, &mut buffer)? == file.as_slice());
+        let mut short = [0u8; 7];
+        assert!(rt; front(&rt, &mut short)? == &file[..7]);
+        fs::remove_file(&rt, NAME)?;
+        assert!(rt; front(&rt, &mut buffer)?.is_empty());
+        Ok(())
+    }
+
     // The length needed where a buffer is too short, else 0.
     fn needed(tables: &Tables, out: &mut Vec<u8>) -> usize {
-        match tables.write(out) {
-            Ok(_) => 0,
-            Err(f) => f.place,
-        }
+        tables.write(out).err().map_or(0, |f| f.place)
     }
 }

@@ -3,35 +3,13 @@
 
 use fault::Fault;
 use file::layout::{Cell, Table};
-use file::tables::{Tables, read};
-use std::fs::File;
-use std::io::{ErrorKind, Read};
-use std::rt::Files;
+use file::stored::{MOST_BYTES, NAME, front};
+use file::tables::{Tables, read, word_at};
 use std::{env, io};
 
 mod survey;
 
-use survey::{Extremes, entry_of, letter, reason, refused_cell, table_of, value_at};
-
-const NAME: &str = "tables.sdt";
-
-const MOST_BYTES: u64 = 4096;
-
-// The first bytes of the file; none where there is no file.
-fn bytes_of(rt: &HostRuntime) -> io::Result<Vec<u8>> {
-    let mut bytes = Vec::new(rt.alloc());
-    match File::open(rt, NAME) {
-        Ok(file) => {
-            file.take(MOST_BYTES).read_to_end(&mut bytes)?;
-        }
-        Err(e) => {
-            if e.kind() != ErrorKind::NotFound {
-                return Err(e);
-            }
-        }
-    }
-    Ok(bytes)
-}
+use survey::{Extremes, entry_of, reason, refused_cell, table_of};
 
 // One line for each table.
 fn show_table(rt: &HostRuntime, tables: &Tables, table: Table) -> io::Result<()> {
@@ -39,13 +17,12 @@ fn show_table(rt: &HostRuntime, tables: &Tables, table: Table) -> io::Result<()>
     let Some(found) = Extremes::of(entries) else {
         return Ok(());
     };
-    let name = letter(table);
     let rows = table.rows(tables.horizon());
     let columns = tables.row(table, rows.saturating_sub(1)).len();
     let count = entries.len();
     let least = found.least;
     let greatest = found.greatest;
-    println!(rt; "{name:>5} {rows:>6} {columns:>8} {count:>8} {least:>10} {greatest:>10}")
+    println!(rt; "{table:>5} {rows:>6} {columns:>8} {count:>8} {least:>10} {greatest:>10}")
 }
 
 fn show(rt: &HostRuntime, tables: &Tables) -> io::Result<()> {
@@ -70,10 +47,10 @@ fn show(rt: &HostRuntime, tables: &Tables) -> io::Result<()> {
 
 // The entry that is refused: its cell, rows and columns from 1, its value and its table's limits.
 fn show_entry(rt: &HostRuntime, bytes: &[u8], at: usize, cell: Cell) -> io::Result<()> {
-    let Some(value) = value_at(bytes, at) else {
+    let Some(value) = word_at(bytes, at) else {
         return Ok(());
     };
-    let name = letter(cell.table);
+    let table = cell.table;
     let row = cell.row.saturating_add(1);
     let column = cell.column.saturating_add(1);
     let least = if cell.is_on_diagonal() {
@@ -83,12 +60,12 @@ fn show_entry(rt: &HostRuntime, bytes: &[u8], at: usize, cell: Cell) -> io::Resu
     };
     let greatest = cell.table.greatest();
     println!(rt;
-        "offset {at} is table {name}, row {row}, column {column}: {value}, limits {least} to {greatest}"
+        "offset {at} is table {table}, row {row}, column {column}: {value}, limits {least} to {greatest}"
     )
 }
 
 fn show_refusal(rt: &HostRuntime, bytes: &[u8], fault: Fault) -> io::Result<()> {
-    let why = reason(fault.number);
+    let why = reason(fault.rule);
     let len = bytes.len();
     println!(rt; "{NAME}: {fault}: {why}")?;
     println!(rt; "{len} bytes were read")?;
@@ -99,24 +76,24 @@ fn show_refusal(rt: &HostRuntime, bytes: &[u8], fault: Fault) -> io::Result<()> 
 }
 
 fn show_file(rt: &HostRuntime) -> io::Result<()> {
-    let bytes = bytes_of(rt)?;
-    match read(&bytes) {
+    let mut buffer = [0; MOST_BYTES];
+    let bytes = front(rt, &mut buffer)?;
+    match read(bytes) {
         Ok(tables) => show(rt, &tables),
-        Err(fault) => show_refusal(rt, &bytes, fault),
+        Err(fault) => show_refusal(rt, bytes, fault),
     }
 }
 
 // What the quantiser makes of a number for a table.
 fn show_counts(rt: &HostRuntime, table: Table, text: &str) -> io::Result<()> {
-    let name = letter(table);
     let Some(entry) = entry_of(text) else {
-        return println!(rt; "{text} for {name}: not a number");
+        return println!(rt; "{text} for {table}: not a number");
     };
     match entry.quantise(table) {
-        Ok(counts) => println!(rt; "{text} for {name}: {counts} counts"),
+        Ok(counts) => println!(rt; "{text} for {table}: {counts} counts"),
         Err(fault) => {
-            let why = reason(fault.number);
-            println!(rt; "{text} for {name}: {fault}: {why}")
+            let why = reason(fault.rule);
+            println!(rt; "{text} for {table}: {fault}: {why}")
         }
     }
 }

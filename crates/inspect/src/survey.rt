@@ -1,16 +1,16 @@
 // What a reader of a table file wants to know of it.
-ghost use Rattle.std.specs.Prelude.{◌≡◌, ◌+◌, length, IfSome, if◌then◌else◌, Some, None, nat_le};
-ghost use Rattle.file.specs.File.{horizon_of, offset, word};
+ghost use Rattle.std.specs.Prelude.{◌≡◌, IfSome};
+ghost use Rattle.file.specs.File.{horizon_of, offset};
 ghost use Rattle.file.specs.Layout.{InTable, place};
 ghost use Rattle.inspect.specs.Extremes.{extremes_of, including as including_of};
 
-use fault::Fault;
+use fault::{Fault, Rule};
 use file::horizon::Horizon;
 use file::layout::{Cell, Table, cell_at_offset};
 use quantiser::Entry;
 
 // The least and the greatest of some entries.
-#[derive(Clone, Copy)]
+#[derive(Clone, Copy, Debug, PartialEq, Eq)]
 pub struct Extremes {
     pub least: i32,
     pub greatest: i32,
@@ -31,17 +31,12 @@ impl Extremes {
     pub fn of(entries: &[i32]) -> Option<Extremes>
         ensures { result ≡ extremes_of entries.now }
     {
-        if entries.is_empty() {
-            return None;
-        }
-        let mut found = Extremes {
-            least: entries[0],
-            greatest: entries[0],
+        let first = *entries.first()?;
+        let alone = Extremes {
+            least: first,
+            greatest: first,
         };
-        for value in entries {
-            found = found.including(*value);
-        }
-        Some(found)
+        Some(entries.iter().copied().fold(alone, Extremes::including))
     }
 }
 
@@ -49,7 +44,7 @@ impl Extremes {
 pub fn refused_cell(bytes: &[u8], fault: Fault) -> Option<Cell>
     ensures { IfSome result (λ x. InTable (horizon_of bytes.now) x × (offset (place (horizon_of bytes.now) x) ≡ fault.place)) }
 {
-    if fault.number != 6 && fault.number != 7 {
+    if fault.rule != Rule::EntryLimits && fault.rule != Rule::PositiveDiagonal {
         return None;
     }
     let stages = bytes.get(5)?;
@@ -57,29 +52,7 @@ pub fn refused_cell(bytes: &[u8], fault: Fault) -> Option<Cell>
     cell_at_offset(horizon, fault.place)
 }
 
-// The number whose four bytes begin at an offset, where they are all there.
-pub fn value_at(bytes: &[u8], at: usize) -> Option<i32>
-    ensures { result ≡ (if nat_le (at + 4) (length bytes.now) then Some (word bytes.now at) else None) }
-{
-    if at > bytes.len() || bytes.len() - at < 4 {
-        return None;
-    }
-    Some(i32::from_le_bytes([bytes[at], bytes[at + 1], bytes[at + 2], bytes[at + 3]]))
-}
-
-// The letter of a table in the documents.
-pub(crate) fn letter(table: Table) -> &'static str {
-    match table {
-        Table::Weight => "w",
-        Table::Gamma => "Γ",
-        Table::Upsilon => "Υ",
-        Table::Unconstrained => "P",
-        Table::Target => "T",
-        Table::Generator => "V",
-    }
-}
-
-// The table that an argument names.
+// The table that an argument names. A function and no `FromStr`: the names are this program's own, and `Table` is another crate's.
 pub(crate) fn table_of(word: &str) -> Option<Table> {
     match word {
         "w" => Some(Table::Weight),
@@ -95,29 +68,23 @@ pub(crate) fn table_of(word: &str) -> Option<Table> {
 // The entry that an argument writes: whole counts behind a '#', or else a real number of units.
 pub(crate) fn entry_of(text: &str) -> Option<Entry> {
     match text.strip_prefix("#") {
-        Some(counts) => match counts.parse::<i64>() {
-            Ok(n) => Some(Entry::Counts(n)),
-            Err(_) => None,
-        },
-        None => match text.parse::<f64>() {
-            Ok(x) => Some(Entry::Real(x)),
-            Err(_) => None,
-        },
+        Some(counts) => counts.parse().ok().map(Entry::Counts),
+        None => text.parse().ok().map(Entry::Real),
     }
 }
 
 // What a refusal of the file or the quantiser means.
-pub(crate) fn reason(number: u8) -> &'static str {
-    match number {
-        1 => "fewer than 6 bytes, so there is no whole header",
-        2 => "the file does not begin with the letters SDT",
-        3 => "the version is not 1",
-        4 => "the horizon is not 1 to 5",
-        5 => "the length is not that of the horizon's tables",
-        6 => "an entry is outside its table's limits",
-        7 => "an entry on the diagonal of V is under 1",
-        31 => "not a finite number",
-        32 => "outside the table's limits",
+pub(crate) fn reason(rule: Rule) -> &'static str {
+    match rule {
+        Rule::HeaderBytes => "fewer than 6 bytes, so there is no whole header",
+        Rule::FileMark => "the file does not begin with the letters SDT",
+        Rule::FileVersion => "the version is not 1",
+        Rule::FileHorizon => "the horizon is not 1 to 5",
+        Rule::FileLength => "the length is not that of the horizon's tables",
+        Rule::EntryLimits => "an entry is outside its table's limits",
+        Rule::PositiveDiagonal => "an entry on the diagonal of V is under 1",
+        Rule::FiniteNumber => "not a finite number",
+        Rule::CountLimits => "outside the table's limits",
         _ => "a refusal of another kind",
     }
 }

@@ -1,5 +1,5 @@
 -- The bars of three barred legs.
-use Rattle.std.specs.Prelude.{◌≡◌, ℕ, min, Bool, cond, ◌==◌}
+use Rattle.std.specs.Prelude.{◌≡◌, ℕ, min, Bool, if◌then◌else◌, ◌==◌}
 use Rattle.legs.specs.declared.barred.Barred.{Barred}
 use Rattle.legs.specs.declared.phases.Legs.{Legs}
 use Rattle.legs.specs.Phases.{by_phase}
@@ -14,7 +14,7 @@ same_phase p q = min p 2 == min q 2
 
 -- one phase's bar has become `bar`; the other bars and the legs under all three are as they were
 pub record OneBar {A B C : Type 0} (phase : ℕ) (bar : Bool) (before after : Legs (Barred A) (Barred B) (Barred C)) : Type 0 where
-  pub set : (k : ℕ) → bars after k ≡ cond (same_phase k phase) bar (bars before k)
+  pub set : (k : ℕ) → bars after k ≡ (if same_phase k phase then bar else bars before k)
   pub a_below : after.a.below ≡ before.a.below
   pub b_below : after.b.below ≡ before.b.below
   pub c_below : after.c.below ≡ before.c.below

@@ -1,12 +1,12 @@
 -- The kinds of leg.
-use Rattle.std.specs.Prelude.{ℕ, ◌+◌, ◌*◌, ◌/◌, ◌%◌, ◌^◌, Bool, cond, not, ◌&&◌, ◌||◌, List, length, ℤ, pos, ◌-ℤ◌, ◌==◌, nat_le, nat_lt, slice_index, slice_index_or}
+use Rattle.std.specs.Prelude.{ℕ, ◌+◌, ◌*◌, ◌/◌, ◌%◌, ◌^◌, Bool, if◌then◌else◌, not, ◌&&◌, ◌||◌, List, length, ℤ, pos, ◌-ℤ◌, ◌==◌, nat_le, nat_lt, slice_index, slice_index_or}
 use Rattle.legs.specs.Model.{LegModel}
 
 -- one position for each level from -reach to reach; a move goes at most `stride` levels up or down; it rests at level 0
 abbrev pub stepped : ℕ → ℕ → LegModel
 stepped reach stride = record {
   count = 2 * reach + 1;
-  level = λ p. cond (nat_lt p (2 * reach + 1)) (pos p -ℤ pos reach) (pos 0);
+  level = λ p. if nat_lt p (2 * reach + 1) then pos p -ℤ pos reach else pos 0;
   permits = λ p q. nat_lt p (2 * reach + 1) && (nat_lt q (2 * reach + 1) && (nat_le p (q + stride) && nat_le q (p + stride)));
   rest = reach;
 }

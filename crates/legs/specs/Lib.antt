@@ -4,6 +4,7 @@ pub mod Measure
 pub mod Measures
 pub mod Model
 pub mod Phases
+pub mod Positions
 pub mod Refusals
 pub mod ListedLaws
 pub mod Masks

@@ -3,9 +3,8 @@ use Rattle.std.specs.Prelude.{◌≡◌, ℕ, ◌+◌, ◌*◌, ◌<◌, ◌≤�
 use Rattle.std.specs.declared.cmp.Ordering.TheVariants.{Less, Equal, Greater}
 use Rattle.std.specs.declared.cmp.Ordering.{Ordering}
 use Rattle.std.proofs.Common.{sym, ap, ap₂, ◌∙◌, arith}
-use Rattle.std.specs.Ordering.{is_le, is_eq, ordering_then, ordering_reverse, MatchOrdering, nat_cmp}
+use Rattle.std.specs.Ordering.{is_le, ordering_then, ordering_reverse, MatchOrdering, nat_cmp}
 use Rattle.std.specs.Cmp.{IsTotalOrder, nat_cmp_total, alike_right, ranks, then_total, on_total}
-use Rattle.std.proofs.lemmas.Bool.{false≢true}
 use Rattle.legs.specs.Measure.{MeasureModel, Lawful, Reached, Small}
 use Rattle.legs.specs.Measures.{squared, peak_first}
 use Rattle.legs.specs.Reaching.{reached_within, reached_after}
@@ -14,9 +13,9 @@ module _ {C : Type 0} {R : C → C → Ordering} (o : IsTotalOrder R) where
   chain : (x y z : C) (a b : Ordering) → R x y ≡ a → R y z ≡ b → is_le a ≡ true → is_le b ≡ true → is_le (R x z) ≡ true
   chain x y z Less Less p q h k = ap is_le (o.trans x y z p q)
   chain x y z Less Equal p q h k = ap is_le (sym (alike_right o y z x q) ∙ p)
-  chain x y z Less Greater p q h k = absurd (false≢true k)
+  chain x y z Less Greater p q h k = cc
   chain x y z Equal b p q h k = ap is_le (o.congr x y z p ∙ q) ∙ k
-  chain x y z Greater b p q h k = absurd (false≢true h)
+  chain x y z Greater b p q h k = cc
 
   -- a measure that compares by a total order wherever its costs come
   pub laws_where : (m : MeasureModel C) → ((a b : C) → Reached m 15 a → Reached m 15 b → m.compare a b ≡ R a b) → ((x y : C) → R x y ≡ Equal → x ≡ y) → ((c : C) (d : ℤ) → Reached m 14 c → Small d → is_le (R c (m.after c d)) ≡ true) → Lawful m
@@ -32,9 +31,9 @@ module _ {C : Type 0} {R : C → C → Ordering} (o : IsTotalOrder R) where
   laws_by start after same grows = laws_where (record { start = start; after = after; compare = R }) (λ a b _ _. refl) same (λ c d _ _. grows c d)
 
 ranked_equal : (a b : ℕ) (o : Ordering) → MatchOrdering o (a < b) (a ≡ b) (b < a) → o ≡ Equal → a ≡ b
-ranked_equal a b Less h e = absurd (false≢true (ap is_eq e))
+ranked_equal a b Less h e = cc
 ranked_equal a b Equal h e = h
-ranked_equal a b Greater h e = absurd (false≢true (ap is_eq e))
+ranked_equal a b Greater h e = cc
 
 ranked_le : (a b : ℕ) (o : Ordering) → MatchOrdering o (a < b) (a ≡ b) (b < a) → a ≤ b → is_le o ≡ true
 ranked_le a b Less h k = refl
@@ -42,9 +41,9 @@ ranked_le a b Equal h k = refl
 ranked_le a b Greater h k = absurd (omega arith)
 
 then_equal : (a b : Ordering) → ordering_then a b ≡ Equal → (a ≡ Equal) × (b ≡ Equal)
-then_equal Less b e = absurd (false≢true (ap is_eq e))
+then_equal Less b e = cc
 then_equal Equal b e = (refl, e)
-then_equal Greater b e = absurd (false≢true (ap is_eq e))
+then_equal Greater b e = cc
 
 then_le : (a b : Ordering) → is_le a ≡ true → is_le b ≡ true → is_le (ordering_then a b) ≡ true
 then_le Less b h k = refl

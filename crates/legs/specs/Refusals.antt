@@ -1,13 +1,10 @@
 -- Which descriptions of a leg are refused.
 use Rattle.std.specs.Prelude.{ℕ, ◌-◌, ◌^◌, Bool, ◌&&◌, ◌||◌, List, length, ℤ, pos, neg_ℤ, Option, ◌==◌, int_le, int_lt, nat_le, nat_lt, slice_index, slice_index_or}
 use Rattle.fault.specs.declared.Fault.{Fault}
-use Rattle.fault.specs.declared.Layer.TheVariants.{Leg}
 use Rattle.fault.specs.Refusals.{first_some, lowest_failing, refused_at, unless}
 use Rattle.legs.specs.Kinds.{bit}
-
--- a refusal that comes from a leg's description
-abbrev pub leg_fault : ℕ → ℕ → Fault
-leg_fault number place = record { layer = Leg; number = number; place = place }
+use Rattle.fault.specs.Rules.{refused}
+use Rattle.fault.specs.declared.rule.Rule.TheVariants.{LevelCount, RisingLevels, HoldingMasks, RestPosition, LegReach, LegStride}
 
 -- from low to high, both included
 abbrev pub within : ℕ → ℕ → ℕ → Bool
@@ -15,7 +12,7 @@ within low high n = nat_le low n && nat_le n high
 
 -- of a stepped leg: its reach first, then its stride
 abbrev pub stepped_refusal : ℕ → ℕ → Option Fault
-stepped_refusal reach stride = first_some (unless (within 1 2 reach) (leg_fault 15 0)) (unless (within 1 4 stride) (leg_fault 16 0))
+stepped_refusal reach stride = first_some (unless (within 1 2 reach) (refused LegReach 0)) (unless (within 1 4 stride) (refused LegStride 0))
 
 -- the level of p lies from -2 to 2, and above that of the position before
 abbrev pub level_stands : List ℤ → ℕ → Bool
@@ -28,7 +25,7 @@ mask_stands n masks p = bit (slice_index masks p) p && nat_lt (slice_index masks
 -- of a listed leg: how many levels and masks there are, then the levels, then the masks, then the rest
 abbrev pub listed_refusal : List ℤ → List ℕ → ℕ → Option Fault
 listed_refusal levels masks rest =
-    first_some (unless (within 2 5 (length levels) && length masks == length levels) (leg_fault 11 0))
-    (first_some (refused_at (lowest_failing (level_stands levels) (length levels)) (leg_fault 12))
-    (first_some (refused_at (lowest_failing (mask_stands (length levels) masks) (length levels)) (leg_fault 13))
-    (unless (nat_lt rest (length levels)) (leg_fault 14 0))))
+    first_some (unless (within 2 5 (length levels) && length masks == length levels) (refused LevelCount 0))
+    (first_some (refused_at (lowest_failing (level_stands levels) (length levels)) (refused RisingLevels))
+    (first_some (refused_at (lowest_failing (mask_stands (length levels) masks) (length levels)) (refused HoldingMasks))
+    (unless (nat_lt rest (length levels)) (refused RestPosition 0))))

@@ -6,7 +6,7 @@ ghost use Rattle.std.proofs.Common.{rules};
 use crate::leg::Leg;
 
 // A leg of any kind and a bar over it. While the bar is set the leg may only hold.
-#[derive(Clone, Copy)]
+#[derive(Clone, Copy, PartialEq, Eq, Debug)]
 pub struct Barred<L> {
     below: L,
     bar: bool,

@@ -8,6 +8,5 @@ pub mod listed;
 pub mod measure;
 pub mod peak_first;
 pub mod phases;
-mod refusal;
 pub mod squared;
 pub mod stepped;

@@ -4,7 +4,8 @@ ghost use Rattle.legs.specs.Measure.{MeasureModel, Lawful, Reached, Room, Small,
 
 use std::cmp::Ordering;
 
-// A measure of how far the rows of a sequence differ from their target.
+// A measure of how far the rows of a sequence differ from their target. That a cost is reached is asked at each call and is no
+// type of its own: such a type would be narrower than `Cost`, and whoever writes a measure would have to wrap and unwrap it.
 pub trait Measure {
     type Cost: Copy;
 

@@ -10,7 +10,7 @@ use crate::measure::Measure;
 use std::cmp::Ordering;
 
 // The largest difference, and where that is equal the sum of the differences, all without their signs.
-#[derive(Clone, Copy)]
+#[derive(Clone, Copy, PartialEq, Eq, Debug, Default)]
 pub struct PeakFirst;
 
 impl PeakFirst {

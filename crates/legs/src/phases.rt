@@ -8,7 +8,8 @@ ghost use Rattle.std.proofs.Common.{rules};
 use crate::barred::Barred;
 use crate::leg::Leg;
 
-// Legs by phase: phases 0 and 1 have the first two, and every other phase the third.
+// Legs by phase: phases 0 and 1 have the first two, and every other phase the third. A phase is any number and no enum: a
+// narrower type would ask more of whoever has a number and asks.
 pub trait Phases {
     ghost models: { Self → ℕ → LegModel };
 
@@ -31,8 +32,9 @@ pub trait Phases {
     ghost lawful: { (legs : Self) (phase : ℕ) → Lawful (models legs phase) };
 }
 
-// Three legs, each of a kind of its own.
-#[derive(Clone, Copy)]
+// Three legs, each of a kind of its own. Every question matches on the phase, as the legs are of three types: to pick the
+// leg in one place would take a `dyn Leg`, and the search would pay for a call through it at every move.
+#[derive(Clone, Copy, PartialEq, Eq, Debug)]
 pub struct Legs<A, B, C> {
     pub a: A,
     pub b: B,

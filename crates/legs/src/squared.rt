@@ -10,7 +10,7 @@ use crate::measure::Measure;
 use std::cmp::Ordering;
 
 // The sum of the squares of the differences.
-#[derive(Clone, Copy)]
+#[derive(Clone, Copy, PartialEq, Eq, Debug, Default)]
 pub struct Squared;
 
 impl Squared {

@@ -6,11 +6,10 @@ ghost use Rattle.legs.specs.Refusals.{stepped_refusal};
 ghost use Rattle.std.proofs.Common.{rules, arith};
 
 use crate::leg::Leg;
-use crate::refusal::leg_fault;
-use fault::Fault;
+use fault::{Fault, Rule};
 
 // A leg whose levels go in ones from -`reach` to `reach`, and whose moves go at most `stride` levels.
-#[derive(Clone, Copy)]
+#[derive(Clone, Copy, PartialEq, Eq, Debug)]
 pub struct Stepped {
     reach: u8,
     stride: u8,
@@ -23,11 +22,11 @@ impl Stepped {
     pub fn new(reach: u8, stride: u8) -> Result<Stepped, Fault>
         ensures { Answers (stepped_refusal reach stride) (λ leg. (leg.reach ≡ reach) × (leg.stride ≡ stride)) result }
     {
-        if reach < 1 || reach > 2 {
-            return Err(leg_fault(15, 0));
+        if !(1..=2).contains(&reach) {
+            return Err(Rule::LegReach.into());
         }
-        if stride < 1 || stride > 4 {
-            return Err(leg_fault(16, 0));
+        if !(1..=4).contains(&stride) {
+            return Err(Rule::LegStride.into());
         }
         Ok(Stepped { reach, stride })
     }

@@ -12,20 +12,13 @@ use std::test::Fail;
 
 // The positions that a leg lets one move to, as a mask.
 fn targets<L: Leg>(leg: &L, from: u8) -> u8 {
-    let mut mask: u8 = 0;
-    for to in 0..8 {
-        if leg.permits(from, to) {
-            mask |= 1 << to;
-        }
-    }
-    mask
+    (0..8)
+        .filter(|&to| leg.permits(from, to))
+        .fold(0, |mask, to| mask | 1 << to)
 }
 
 fn refusal<T: Drop>(answer: Result<T, Fault>) -> Option<(u8, usize)> {
-    match answer {
-        Ok(_) => None,
-        Err(fault) => Some((fault.number, fault.place)),
-    }
+    answer.err().map(|fault| (fault.number(), fault.place))
 }
 
 // Reach, stride, and the targets of positions 0 to 5.

@@ -2,43 +2,19 @@
 #![tactic(auto)]
 
 use console::state::Console;
-use std::fs::File;
+use file::stored::{MOST_BYTES, front};
 use std::io;
-use std::io::{ErrorKind, Read, Write};
-use std::rt::Files;
+use std::io::{Read, Write};
 
 mod line;
 
-use line::Line;
-
-const NAME: &str = "tables.sdt";
-
-// The most bytes of the table file that are taken.
-const MOST_BYTES: u64 = 4096;
-
-// The front of the table file; nothing where there is no file.
-fn table_file(rt: &HostRuntime) -> io::Result<Vec<u8>> {
-    let mut bytes = Vec::new(rt.alloc());
-    match File::open(rt, NAME) {
-        Ok(file) => {
-            file.take(MOST_BYTES).read_to_end(&mut bytes)?;
-        }
-        Err(e) => {
-            if e.kind() != ErrorKind::NotFound {
-                return Err(e);
-            }
-        }
-    }
-    Ok(bytes)
-}
+use line::{Line, keep};
 
 // Answers one line, at once.
 fn reply(rt: &HostRuntime, console: &mut Console, line: &[u8]) -> io::Result<()> {
     let mut out = [0u8; 96];
-    match console.answer(line, &mut out) {
-        Ok(printed) => rt.stdout().write_all(&out[0..printed]),
-        Err(_) => unreachable(),
-    }
+    let printed = console.answer(line, &mut out).unwrap();
+    rt.stdout().write_all(&out[..printed])
 }
 
 // Answers the lines that end in a part of the input, and keeps the one that does not.
@@ -50,18 +26,19 @@ fn take_in(
 ) -> io::Result<()> {
     for byte in part {
         if *byte == b'\n' {
-            reply(rt, console, line.bytes())?;
+            reply(rt, console, line)?;
             line.clear();
         } else {
-            line.push(*byte);
+            keep(line, *byte);
         }
     }
     Ok(())
 }
 
 fn main(rt: HostRuntime) -> io::Result<()> {
-    let file = table_file(&rt)?;
-    let mut console = Console::new(&file);
+    let mut buffer = [0; MOST_BYTES];
+    let file = front(&rt, &mut buffer)?;
+    let mut console = Console::new(file);
     reply(&rt, &mut console, b"LOAD")?;
     let mut input = rt.stdin();
     let mut part = [0u8; 4096];
@@ -71,10 +48,10 @@ fn main(rt: HostRuntime) -> io::Result<()> {
         if read == 0 {
             break;
         }
-        take_in(&rt, &mut console, &mut line, &part[0..read])?;
+        take_in(&rt, &mut console, &mut line, &part[..read])?;
     }
-    if line.is_begun() {
-        reply(&rt, &mut console, line.bytes())?;
+    if !line.is_empty() {
+        reply(&rt, &mut console, &line)?;
     }
     Ok(())
 }

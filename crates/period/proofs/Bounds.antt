@@ -1,19 +1,9 @@
 -- How large sums of products are, and what they come to in the machine's widths.
-use Rattle.std.proofs.Common.{◌≡◌, ℕ, zero, suc, ◌+◌, ◌-◌, ◌*◌, ◌^◌, ◌<◌, ◌≤◌, ℤ, pos, negsuc, ◌+ℤ◌, ◌-ℤ◌, ◌*ℤ◌, neg_ℤ, nat_abs, refl, ap, ◌∙◌, le_refl, suc-mul, add-one, arith, w8, w32, w64, SFits, to_z, of_z}
+use Rattle.std.proofs.Common.{◌≡◌, ℕ, zero, suc, ◌+◌, ◌-◌, ◌*◌, ◌^◌, ◌<◌, ◌≤◌, ℤ, ◌+ℤ◌, ◌-ℤ◌, ◌*ℤ◌, nat_abs, refl, ap, le_refl, suc-mul, add-one, arith, w32, w64, SFits, to_z, of_z}
 use Rattle.std.proofs.lemmas.Nat.{mul-le}
-use Rattle.std.proofs.lemmas.Int.{ints, to_z-of_z}
+use Rattle.std.proofs.lemmas.Int.{ints, to_z-of_z, unsigned_abs-mul}
 use Rattle.period.specs.Sums.{Within, rounded, sum_to}
 use Rattle.period.proofs.Rounding.{rounded_within}
-
-abs_neg : (n : ℕ) → nat_abs (neg_ℤ (pos n)) ≡ n
-abs_neg zero = refl
-abs_neg (suc n) = refl
-
-abs_product : (a b : ℤ) → nat_abs (a *ℤ b) ≡ nat_abs a * nat_abs b
-abs_product (pos a) (pos b) = refl
-abs_product (pos a) (negsuc b) = abs_neg (a * suc b)
-abs_product (negsuc a) (pos b) = abs_neg (suc a * b)
-abs_product (negsuc a) (negsuc b) = refl
 
 pub within_sum : (a b : ℤ) (p q : ℕ) → Within p a → Within q b → Within (p + q) (a +ℤ b)
 within_sum a b p q h k = omega (arith, ints)
@@ -22,7 +12,7 @@ pub within_difference : (a b : ℤ) (p q : ℕ) → Within p a → Within q b �
 within_difference a b p q h k = omega (arith, ints)
 
 pub within_product : (a b : ℤ) (p q : ℕ) → Within p a → Within q b → Within (p * q) (a *ℤ b)
-within_product a b p q h k = rw (abs_product a b) (mul-le (nat_abs a) (nat_abs b) p q h k)
+within_product a b p q h k = rw (unsigned_abs-mul a b) (mul-le (nat_abs a) (nat_abs b) p q h k)
 
 within_sum_to : (f : ℕ → ℤ) (n m : ℕ) → ((k : ℕ) → k < n → Within m (f k)) → Within (n * m) (sum_to n f)
 within_sum_to f zero m h = omega arith
@@ -53,9 +43,15 @@ sum_to_same f g (suc n) h =
 pub within_as : (m : ℕ) (a b : ℤ) → a ≡ b → Within m b → Within m a
 within_as m a b e h = rw e h
 
+-- a sum of products with one product more, which grows by 2 ^ 51 at most
+pub one_more : (f g : ℕ → ℤ) (n m : ℕ) (s r a x : ℤ) → m ≡ n + 1 → (s ≡ sum_to n (λ k. f k *ℤ g k)) × Within (n * 2 ^ 51) s → a ≡ f n → x ≡ g n → r ≡ s +ℤ a *ℤ x → ((b : ℕ) → Within b s → Within (b + 2 ^ 51) r) → (r ≡ sum_to m (λ k. f k *ℤ g k)) × Within (m * 2 ^ 51) r
+one_more f g n m s r a x e so_far ea ex is grows =
+    let more = sum_to_more (λ k. f k *ℤ g k) n in
+    let sum = so_far.0 in
+    (rw e (cc), omega (arith, grows (n * 2 ^ 51) so_far.1))
+
 -- one product more, in 64 bits
 pub record Added (s a b : ℤ) : Type 0 where
-  pub product : SFits w64 (to_z w64 (of_z w64 a) *ℤ to_z w64 (of_z w64 b))
   pub sum : SFits w64 (to_z w64 (of_z w64 s) +ℤ to_z w64 (of_z w64 (to_z w64 (of_z w64 a) *ℤ to_z w64 (of_z w64 b))))
   pub value : to_z w64 (of_z w64 (to_z w64 (of_z w64 s) +ℤ to_z w64 (of_z w64 (to_z w64 (of_z w64 a) *ℤ to_z w64 (of_z w64 b))))) ≡ s +ℤ a *ℤ b
   pub small : Within (2 ^ 51) (a *ℤ b)
@@ -74,7 +70,7 @@ added s a b fb ha hs =
     let p : Within (2 ^ 51) (a *ℤ b) = within_product a b (2 ^ 20) (2 ^ 31) ha bb in
     let fp : SFits w64 (a *ℤ b) = omega (arith, ints) in
     let e : to_z w64 (of_z w64 (to_z w64 (of_z w64 a) *ℤ to_z w64 (of_z w64 b))) ≡ a *ℤ b = simp to_z-of_z in
-    record { product = simp to_z-of_z fp; sum = sum_fits s _ (a *ℤ b) e p hs; value = sum_is s _ (a *ℤ b) e p hs; small = p }
+    record { sum = sum_fits s _ (a *ℤ b) e p hs; value = sum_is s _ (a *ℤ b) e p hs; small = p }
 
 -- a number of 32 bits that comes in 64
 pub narrowed : (r : ℤ) → SFits w32 r → to_z w32 (of_z w32 (to_z w64 (of_z w64 r))) ≡ r
@@ -88,14 +84,6 @@ pub difference_is : (a b : ℤ) → Within (2 ^ 29) a → Within (2 ^ 29) b → 
 difference_is a b ha hb = let f = difference_fits a b ha hb in omega (arith, ints)
 
 -- a product of the weight and a level, in 32 bits
-pub level_product_fits : (w u : ℤ) → Within 65536 w → Within 2 u → SFits w32 (to_z w32 (of_z w32 w) *ℤ to_z w32 (of_z w32 u))
-level_product_fits w u hw hu =
-    let fw : SFits w32 w = omega (arith, ints) in
-    let fu : SFits w32 u = omega (arith, ints) in
-    let p : Within (65536 * 2) (w *ℤ u) = within_product w u 65536 2 hw hu in
-    let f : SFits w32 (w *ℤ u) = omega (arith, ints) in
-    simp to_z-of_z f
-
 pub level_product_is : (w u : ℤ) → Within 65536 w → Within 2 u → to_z w32 (of_z w32 (to_z w32 (of_z w32 w) *ℤ to_z w32 (of_z w32 u))) ≡ w *ℤ u
 level_product_is w u hw hu =
     let fw : SFits w32 w = omega (arith, ints) in
@@ -103,9 +91,3 @@ level_product_is w u hw hu =
     let p : Within (65536 * 2) (w *ℤ u) = within_product w u 65536 2 hw hu in
     let f : SFits w32 (w *ℤ u) = omega (arith, ints) in
     simp to_z-of_z
-
-pub level_read : (r u : ℤ) → Within 2 u → r ≡ to_z w8 (of_z w8 u) → (r ≡ u) × Within 2 r
-level_read r u hu e =
-    let f : SFits w8 u = omega (arith, ints) in
-    let is = e ∙ to_z-of_z w8 u f in
-    (is, within_as 2 r u is hu)

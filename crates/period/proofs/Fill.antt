@@ -1,4 +1,4 @@
--- A loop that fills an array from its front.
+-- Arrays that are filled from their front.
 use Rattle.std.proofs.Common.{◌≡◌, ℕ, ◌+◌, ◌<◌, List, length, get_or, set, replicate, ℤ, pos, ◌∙◌, ⊎_elim, zero-le, arith, below_more}
 use Rattle.std.proofs.lemmas.List.{get_or_past, get_or-replicate, get_or-set_other, get_or-set_same, length-replicate, length-set}
 use Rattle.std.proofs.str.Laws.{order}

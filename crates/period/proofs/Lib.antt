@@ -1,9 +1,9 @@
 pub mod Bounds
-pub mod Chained
 pub mod Fill
+pub mod Levels
 pub mod Limits
 pub mod Outside
 pub mod Rounding
-pub mod Rows
+pub mod RowSums
 pub mod Steps
 pub mod Whole

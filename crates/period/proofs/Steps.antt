@@ -5,7 +5,7 @@ use Rattle.file.specs.declared.layout.Table.TheVariants.{Gamma}
 use Rattle.period.specs.Sums.{EachWithin, Within, rounded, sum_to}
 use Rattle.period.proofs.Bounds.{within_as}
 use Rattle.period.proofs.Limits.{free_within}
-use Rattle.period.proofs.Rows.{row_sum}
+use Rattle.period.proofs.RowSums.{row_sum}
 
 -- the rounded sum of a row of Γ, as it is read
 pub free : (d : TableData) (s : Sound d) (i row : List ℤ) (r : ℕ) (z : ℤ) → row ≡ row_reading d Gamma r → r < 2 * d.horizon → EachWithin 8192 i → z ≡ rounded (sum_to (length row) (λ k. get_or row k (pos 0) *ℤ get_or i k (pos 0))) → (z ≡ rounded (sum_to 2 (λ k. entry d Gamma r k *ℤ get_or i k (pos 0)))) × Within (2 ^ 29) z

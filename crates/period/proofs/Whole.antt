@@ -5,11 +5,11 @@ use Rattle.file.specs.declared.layout.Table.{Table}
 use Rattle.file.specs.declared.layout.Table.TheVariants.{Upsilon, Unconstrained, Target}
 use Rattle.period.specs.Equations.{Given, error, error_term, period_theta, row_product, target, theta, unconstrained, weight_term}
 use Rattle.period.specs.Solved.{Fair, Solved}
-use Rattle.period.specs.Sums.{EachWithin, Filled, rounded}
+use Rattle.period.specs.Sums.{Filled, rounded}
 use Rattle.period.specs.declared.Period.{Period}
 use Rattle.period.proofs.Bounds.{sum_to_same}
 use Rattle.period.proofs.Fill.{filled_as, filled_within}
-use Rattle.period.proofs.Limits.{bounded, given_error_within, given_theta_within}
+use Rattle.period.proofs.Limits.{bounded}
 
 -- the equations ask only for the rows that there are
 theta_same : (d : TableData) (e f : ℕ → ℤ) (u : List ℤ) (j : ℕ) → ((r : ℕ) → r < 2 * d.horizon → e r ≡ f r) → theta d e u j ≡ theta d f u j
@@ -24,16 +24,10 @@ row_product_same d t e f j h =
     ap rounded (sum_to_same (λ k. entry d t j k *ℤ e k) (λ k. entry d t j k *ℤ f k) (3 * d.horizon) (λ k l. ap (λ z. entry d t j k *ℤ z) (h k l)))
 
 module _ (d : TableData) (s : Sound d) (g : Given) (fair : Fair d.horizon g) (es : List ℤ) (errors : Filled 10 (2 * d.horizon) (error d g.currents g.references) es) where
-  pub errors_small : EachWithin 40960 es
-  errors_small = filled_within 10 (2 * d.horizon) 40960 (error d g.currents g.references) es errors (given_error_within d s g fair)
-
   module _ (ts : List ℤ) (thetas : Filled 15 (3 * d.horizon) (theta d (λ r. get_or es r (pos 0)) g.levels) ts) where
     thetas_are : Filled 15 (3 * d.horizon) (period_theta d g) ts
     unfolding period_theta
     thetas_are = filled_as 15 (3 * d.horizon) _ _ ts (λ j h. theta_same d (λ r. get_or es r (pos 0)) (error d g.currents g.references) g.levels j errors.value) thetas
-
-    pub thetas_small : EachWithin 540672 ts
-    thetas_small = filled_within 15 (3 * d.horizon) 540672 (period_theta d g) ts thetas_are (given_theta_within d s g fair)
 
     products_are : (t : Table) (zs : List ℤ) → Filled 15 (3 * d.horizon) (row_product d t (λ k. get_or ts k (pos 0))) zs → Filled 15 (3 * d.horizon) (row_product d t (period_theta d g)) zs
     products_are t zs p = filled_as 15 (3 * d.horizon) _ _ zs (λ j h. row_product_same d t (λ k. get_or ts k (pos 0)) (period_theta d g) j thetas_are.value) p

@@ -2,8 +2,9 @@
 use Rattle.std.specs.Prelude.{ℕ, ◌*◌, Bool, List, [], ◌∷◌, ◌++◌, length, ℤ, pos, Option, ◌==◌, nat_le, slice_index, slice_index_or, unsigned_abs}
 use Rattle.fault.specs.Refusals.{first_some, lowest_failing, refused_at, unless}
 use Rattle.fault.specs.declared.Fault.{Fault}
-use Rattle.fault.specs.declared.Layer.TheVariants.{Controller}
 use Rattle.legs.specs.Model.{LegModel}
+use Rattle.fault.specs.Rules.{refused}
+use Rattle.fault.specs.declared.rule.Rule.TheVariants.{InputRange, ReferenceCount}
 
 -- a current or a reference may have this value
 abbrev pub allowed : ℤ → Bool
@@ -17,13 +18,10 @@ allowed_at currents references k = allowed (slice_index_or (currents ++ referenc
 abbrev pub first_outside : List ℤ → List ℤ → Option ℕ
 first_outside currents references = lowest_failing (allowed_at currents references) (length (currents ++ references))
 
-abbrev pub controller_fault : ℕ → ℕ → Fault
-controller_fault number place = record { layer = Controller; number = number; place = place }
-
 -- 26: not two references for each of n stages, with how many there are; 25: a value that is not allowed, with its place
 abbrev pub inputs_refusal : ℕ → List ℤ → List ℤ → Option Fault
 inputs_refusal n currents references =
-    first_some (unless (length references == 2 * n) (controller_fault 26 (length references))) (refused_at (first_outside currents references) (controller_fault 25))
+    first_some (unless (length references == 2 * n) (refused ReferenceCount (length references))) (refused_at (first_outside currents references) (refused InputRange))
 
 -- the levels of the three applied positions
 abbrev pub levels_of : (ℕ → LegModel) → List ℕ → List ℤ

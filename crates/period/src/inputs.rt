@@ -1,27 +1,31 @@
 // What a controller is handed for one period, and whether it may be.
-ghost use Rattle.std.specs.Prelude.{◌≡◌, ◌*◌, length, OnOk};
+ghost use Rattle.std.specs.Prelude.{◌≡◌, ◌*◌, length};
 ghost use Rattle.fault.specs.Refusals.{Answers};
-ghost use Rattle.period.specs.Inputs.{controller_fault, first_outside, inputs_refusal, levels_of};
+ghost use Rattle.file.specs.Tables.{data_of};
+ghost use Rattle.period.specs.Inputs.{first_outside, inputs_refusal, levels_of};
 ghost use Rattle.period.specs.Sums.{EachWithin};
 
-use fault::{Fault, Layer};
-use file::horizon::Horizon;
+use crate::rows::Levels;
+use fault::{Fault, Rule};
+use file::tables::Tables;
 use legs::phases::Phases;
 
 // The greatest current or reference, in counts and either direction.
 const GREATEST: u32 = 8192;
 
-fn refused(number: u8, place: usize) -> Fault
-    ensures { result ≡ controller_fault number place }
-{
-    Fault {
-        layer: Layer::Controller,
-        number,
-        place,
-    }
+// The tables of a period with the currents and the references that may be handed in for it: `check` makes them.
+#[derive(Clone, Copy)]
+pub(crate) struct Inputs<'a> {
+    pub(crate) tables: &'a Tables,
+    pub(crate) currents: &'a [i32; 2],
+    pub(crate) references: &'a [i32],
+    ghost staged: { length references.now ≡ 2 * (data_of tables.now).horizon },
+    ghost currents_small: { EachWithin 8192 currents.now },
+    ghost references_small: { EachWithin 8192 references.now },
 }
 
 // The place of the first value outside the range, currents before references.
+// A rule of the project keeps this walk a `for` over the values with their index, which names the first that fails.
 fn first_outside_range(currents: &[i32; 2], references: &[i32]) -> Option<usize>
     ensures { result ≡ first_outside currents.now references.now }
 {
@@ -34,29 +38,37 @@ fn first_outside_range(currents: &[i32; 2], references: &[i32]) -> Option<usize>
 }
 
 // The levels of the applied positions.
-pub(crate) fn levels<L: Phases>(legs: &L, applied: &[u8; 3]) -> [i8; 3]
-    ensures value { result ≡ levels_of (L.Phases.models legs.now) applied.now }
-    ensures bound { EachWithin 2 result }
+pub(crate) fn levels<L: Phases>(legs: &L, applied: &[u8; 3]) -> Levels
+    ensures { result.values ≡ levels_of (L.Phases.models legs.now) applied.now }
 {
-    [
-        legs.level(0, applied[0]),
-        legs.level(1, applied[1]),
-        legs.level(2, applied[2]),
-    ]
+    let [a, b, c] = *applied;
+    Levels {
+        values: [
+            i32::from(legs.level(0, a)),
+            i32::from(legs.level(1, b)),
+            i32::from(legs.level(2, c)),
+        ],
+    }
 }
 
-// Whether the currents and references may be handed in.
-pub(crate) fn check(horizon: Horizon, currents: &[i32; 2], references: &[i32]) -> Result<(), Fault>
-    ensures answers { Answers (inputs_refusal horizon.stages currents.now references.now) (λ _. Unit {0}) result }
-    ensures staged { OnOk result (length references.now ≡ 2 * horizon.stages) }
-    ensures currents { OnOk result (EachWithin 8192 currents.now) }
-    ensures references { OnOk result (EachWithin 8192 references.now) }
+// The currents and references, where they may be handed in.
+pub(crate) fn check<'a>(
+    tables: &'a Tables,
+    currents: &'a [i32; 2],
+    references: &'a [i32],
+) -> Result<Inputs<'a>, Fault>
+    ensures { Answers (inputs_refusal (data_of tables.now).horizon currents.now references.now) (λ inputs. (inputs.tables.now ≡ tables.now) × (inputs.currents.now ≡ currents.now) × (inputs.references.now ≡ references.now)) result }
 {
+    let horizon = tables.horizon();
     if references.len() != 2 * horizon.stages() {
-        return Err(refused(26, references.len()));
+        return Err(Rule::ReferenceCount.at(references.len()));
     }
     match first_outside_range(currents, references) {
-        Some(place) => Err(refused(25, place)),
-        None => Ok(()),
+        Some(place) => Err(Rule::InputRange.at(place)),
+        None => Ok(Inputs {
+            tables,
+            currents,
+            references,
+        }),
     }
 }

@@ -31,21 +31,7 @@ pub(crate) fn add_product(sum: i64, entry: i32, x: i32) -> i64
     sum + i64::from(entry) * i64::from(x)
 }
 
-// The sum of the products of a table's row with the first numbers of a list.
-fn dot(row: &[i32], xs: &[i32]) -> i64
-    requires few { length row.now ≤ 15 }
-    requires enough { length row.now ≤ length xs.now }
-    requires limited { (k : ℕ) → k < length row.now → Within (2 ^ 20) (slice_index_or row.now k (pos 0)) }
-    ensures { result ≡ sum_to (length row.now) (λ k. slice_index_or row.now k (pos 0) *ℤ slice_index_or xs.now k (pos 0)) }
-{
-    let mut sum = 0;
-    for (k, entry) in row.iter().enumerate() {
-        sum = add_product(sum, *entry, xs[k]);
-    }
-    sum
-}
-
-// The same sum, rounded. The numbers are small enough that it has 32 bits.
+// The sum of the products of a table's row with the first numbers of a list, rounded. The numbers are small enough that it has 32 bits.
 pub(crate) fn rounded_dot(row: &[i32], xs: &[i32]) -> i32
     requires few { length row.now ≤ 15 }
     requires enough { length row.now ≤ length xs.now }
@@ -53,5 +39,10 @@ pub(crate) fn rounded_dot(row: &[i32], xs: &[i32]) -> i32
     requires small { (k : ℕ) → k < length row.now → Within 540672 (slice_index_or xs.now k (pos 0)) }
     ensures { result ≡ rounded_sum (sum_to (length row.now) (λ k. slice_index_or row.now k (pos 0) *ℤ slice_index_or xs.now k (pos 0))) }
 {
-    rounded(dot(row, xs)) as i32
+    // a `for`, since the library bounds no partial sum of a `sum` of signed numbers
+    let mut sum = 0;
+    for (entry, x) in row.iter().zip(xs) {
+        sum = add_product(sum, *entry, *x);
+    }
+    rounded(sum) as i32
 }

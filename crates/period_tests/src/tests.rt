@@ -1,4 +1,6 @@
-use fault::{Fault, Layer};
+ghost use Rattle.std.specs.Prelude.{◌^◌, ◌<◌, ◌≤◌};
+
+use fault::Layer;
 use file::tables::{Tables, read};
 use legs::phases::Legs;
 use legs::stepped::Stepped;
@@ -17,63 +19,51 @@ fn npc() -> Legs<Stepped, Stepped, Stepped> {
     }
 }
 
-// The file of a plant that looks one stage ahead: all tables on their diagonals only, with a given first entry of Γ.
-fn one_stage(gamma: i32) -> [u8; 146] {
-    let mut file = [0; 146];
-    file[0] = b'S';
-    file[1] = b'D';
-    file[2] = b'T';
-    file[3] = 1;
-    file[5] = 1;
-    for k in 0..35usize {
-        let value: i32 = match k {
-            0 => 4096,
-            1 => gamma,
-            4 | 5 | 9 => 4096,
-            11 | 15 | 19 => -4096,
-            20 | 24 | 28 => -4096,
-            29 | 31 | 34 => 4096,
-            _ => 0,
-        };
-        let bytes = value.to_le_bytes();
-        for b in 0..4usize {
-            file[6 + 4 * k + b] = bytes[b];
-        }
+// The file of a plant that looks so many stages ahead, from each entry's number.
+fn file_of<const LEN: usize, F: Fn(usize) -> i32>(stages: u8, entry: F) -> [u8; LEN]
+    requires headed { 6 ≤ LEN }
+    requires small { LEN < 2 ^ 20 }
+    requires callable { F.IsAlwaysCallable entry }
+{
+    let mut file = [0; LEN];
+    let (header, entries) = file.split_at_mut(6);
+    header.copy_from_slice(&[b'S', b'D', b'T', 1, 0, stages]);
+    for (k, bytes) in entries.chunks_exact_mut(4).enumerate() {
+        bytes.copy_from_slice(&entry(k).to_le_bytes());
     }
     file
+}
+
+// The file of a plant that looks one stage ahead: all tables on their diagonals only, with a given first entry of Γ.
+fn one_stage(gamma: i32) -> [u8; 146] {
+    file_of(1, |k| match k {
+        0 => 4096,
+        1 => gamma,
+        4 | 5 | 9 => 4096,
+        11 | 15 | 19 => -4096,
+        20 | 24 | 28 => -4096,
+        29 | 31 | 34 => 4096,
+        _ => 0,
+    })
 }
 
 // The file of five stages whose every entry is the greatest that its table allows.
 fn five_stages() -> [u8; 2970] {
-    let mut file = [0; 2970];
-    file[0] = b'S';
-    file[1] = b'D';
-    file[2] = b'T';
-    file[3] = 1;
-    file[5] = 5;
-    for k in 0..741usize {
-        let value: i32 = match k {
-            0 => 65_536,
-            1..=20 => 8192,
-            21..=170 => 4096,
-            171..=395 => 1_048_576,
-            396..=620 => 65_536,
-            _ => 1_048_576,
-        };
-        let bytes = value.to_le_bytes();
-        for b in 0..4usize {
-            file[6 + 4 * k + b] = bytes[b];
-        }
-    }
-    file
+    file_of(5, |k| match k {
+        0 => 65_536,
+        1..=20 => 8192,
+        21..=170 => 4096,
+        171..=395 => 1_048_576,
+        396..=620 => 65_536,
+        _ => 1_048_576,
+    })
 }
 
-fn refused(number: u8, place: usize) -> Fault {
-    Fault {
-        layer: Layer::Controller,
-        number,
-        place,
-    }
+// A refusal's layer, number and place.
+type Refusal = (Layer, u8, usize);
+
+fn refused(number: u8, place: usize) -> Refusal {
+    (Layer::Controller, number, place)
 }
 
 fn first_rows(rows: &[i32; 15]) -> (i32, i32, i32) {
@@ -81,11 +71,10 @@ fn first_rows(rows: &[i32; 15]) -> (i32, i32, i32) {
 }
 
 // The refusal of a period, if it is refused.
-fn refusal(tables: &Tables, currents: &[i32; 2], references: &[i32]) -> Option<Fault> {
-    match Period::of(tables, &npc(), &AT_ZERO, currents, references) {
-        Ok(_) => None,
-        Err(fault) => Some(fault),
-    }
+fn refusal(tables: &Tables, currents: &[i32; 2], references: &[i32]) -> Option<Refusal> {
+    Period::of(tables, &npc(), &AT_ZERO, currents, references)
+        .err()
+        .map(|f| (f.layer(), f.number(), f.place))
 }
 
 #[test]
@@ -102,8 +91,8 @@ fn sums_round_to_the_nearest_count(rt: HostRuntime) {
         (i64::MAX, 2_251_799_813_685_248),
         (i64::MIN, -2_251_799_813_685_248),
     ];
-    for (sum, counts) in rows.iter() {
-        assert_eq!(rt; rounded(*sum), *counts);
+    for (sum, counts) in rows {
+        assert_eq!(rt; rounded(sum), counts);
     }
 }
 
@@ -120,9 +109,9 @@ fn half_a_unit_asked_for(rt: HostRuntime) -> Result<(), Fail> {
 fn the_weight_draws_towards_the_applied_level(rt: HostRuntime) -> Result<(), Fail> {
     let tables = read(&one_stage(4096))?;
     let rows = [(2, 1, 6144, 0), (0, 1, -2048, 0), (1, 2, 2048, 4096)];
-    for (a, c, first, third) in rows.iter() {
-        let period = Period::of(&tables, &npc(), &[*a, 1, *c], &[0, 0], &[2048, 0])?;
-        assert_eq!(rt; first_rows(&period.unconstrained), (*first, 0, *third));
+    for (a, c, first, third) in rows {
+        let period = Period::of(&tables, &npc(), &[a, 1, c], &[0, 0], &[2048, 0])?;
+        assert_eq!(rt; first_rows(&period.unconstrained), (first, 0, third));
     }
     Ok(())
 }
@@ -131,9 +120,9 @@ fn the_weight_draws_towards_the_applied_level(rt: HostRuntime) -> Result<(), Fai
 fn errors_are_rounded_before_they_are_used(rt: HostRuntime) -> Result<(), Fail> {
     let tables = read(&one_stage(1))?;
     let rows = [(2047, 0), (2048, -1), (-2048, 0), (-2049, 1)];
-    for (current, target) in rows.iter() {
-        let period = Period::of(&tables, &npc(), &AT_ZERO, &[*current, 0], &[0, 0])?;
-        assert_eq!(rt; period.target[0], *target);
+    for (current, target) in rows {
+        let period = Period::of(&tables, &npc(), &AT_ZERO, &[current, 0], &[0, 0])?;
+        assert_eq!(rt; period.target[0], target);
     }
     Ok(())
 }
@@ -170,12 +159,11 @@ fn the_first_value_outside_is_named(rt: HostRuntime) -> Result<(), Fail> {
         (0, 0, 0, 8193, Some(3)),
         (0, i32::MIN, i32::MAX, 0, Some(1)),
     ];
-    for (a, b, c, d, place) in rows.iter() {
-        let expected = match place {
-            Some(p) => Some(refused(25, *p)),
-            None => None,
-        };
-        assert_eq!(rt; refusal(&tables, &[*a, *b], &[*c, *d]), expected);
+    for (a, b, c, d, place) in rows {
+        assert_eq!(rt;
+            refusal(&tables, &[a, b], &[c, d]),
+            place.map(|p| refused(25, p))
+        );
     }
     Ok(())
 }
@@ -183,11 +171,11 @@ fn the_first_value_outside_is_named(rt: HostRuntime) -> Result<(), Fail> {
 #[test]
 fn every_stage_has_two_references(rt: HostRuntime) -> Result<(), Fail> {
     let tables = read(&one_stage(4096))?;
-    for count in [0usize, 1, 3, 4].iter() {
-        let references = [9000; 4];
+    let references = [9000; 4];
+    for count in [0, 1, 3, 4] {
         assert_eq!(rt;
-            refusal(&tables, &[9000, 0], &references[0..*count]),
-            Some(refused(26, *count))
+            refusal(&tables, &[9000, 0], &references[..count]),
+            Some(refused(26, count))
         );
     }
     Ok(())

@@ -1,5 +1,5 @@
 -- Floats of more than 512 in size: their counts pass the limits of every table.
-use Rattle.std.proofs.Common.{◌≡◌, ℕ, ◌*◌, ◌<◌, ◌≤◌, Bool, true, false, ◌&&◌, ◌⊎◌, ℤ, pos, negsuc, ◌+ℤ◌, ◌-ℤ◌, ◌*ℤ◌, ◌≤ℤ◌, ◌<ℤ◌, sym, refl, ap, ◌∙◌, inl, inr, arith, ltb-false, ltb-true}
+use Rattle.std.proofs.Common.{◌≡◌, ◌*◌, ◌<◌, ◌≤◌, Bool, true, false, ◌&&◌, ◌⊎◌, ℤ, pos, negsuc, ◌+ℤ◌, ◌-ℤ◌, ◌*ℤ◌, ◌≤ℤ◌, ◌<ℤ◌, sym, refl, ap, ◌∙◌, inl, inr, arith, ltb-false, ltb-true}
 use lib.IntN.{pos-*ℤ-pos, negsuc-*ℤ-pos}
 use lib.Signed.{le_z}
 use lib.Ieee.{Float, nan, inf, fin, binary64, up, down, of_bits, lt}
@@ -27,7 +27,7 @@ unfolding of_bits
 five_hundred_twelve = refl
 
 clash : {X : Type 0} (b : Bool) → b ≡ true → b ≡ false → X
-clash b p q = let z : ◌≡◌ {A = ℕ} 0 1 = cc (p, q) in absurd (omega arith)
+clash b p q = cc
 
 -- what the test on the absolute value says
 pub far_from : (x y : Float) → float_is_finite x ≡ true → y ≡ float_with_sign false x → lt (of_bits binary64 4647714815446351872) y ≡ true → Far x

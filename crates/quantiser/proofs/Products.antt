@@ -1,5 +1,5 @@
 -- Whole numbers times a natural one: what a step of 1 adds, and how order carries over.
-use Rattle.std.proofs.Common.{◌≡◌, ℕ, zero, suc, ◌+◌, ◌*◌, ◌/◌, ◌<◌, ℤ, pos, negsuc, ◌+ℤ◌, ◌-ℤ◌, ◌*ℤ◌, neg_ℤ, nat_abs, ◌≤ℤ◌, ◌<ℤ◌, sym, refl, ap, ◌∙◌, subst, mul_assoc, mul_comm, add-mul, zero-mul, div-mul-le_self, arith}
+use Rattle.std.proofs.Common.{◌≡◌, ℕ, zero, suc, ◌*◌, ◌/◌, ◌<◌, ℤ, pos, negsuc, ◌+ℤ◌, ◌-ℤ◌, ◌*ℤ◌, neg_ℤ, nat_abs, ◌≤ℤ◌, ◌<ℤ◌, sym, refl, ap, ◌∙◌, subst, suc-mul, zero-mul, div-mul-le_self, arith}
 use native.Mathlib.Nat.{lt-div-mul-add}
 use lib.IntN.{+ℤ_one, -ℤ_one, +ℤ_idr, suc_ℤ-*ℤ, pred_ℤ-*ℤ, pos-*ℤ-pos, negsuc-*ℤ-pos}
 use Rattle.std.specs.Int.{int_div_euclid}
@@ -16,7 +16,7 @@ negated zero d = subst (λ n. pos n ≡ neg_ℤ (pos n)) (sym (zero-mul d)) refl
 negated (suc n) d = negsuc-*ℤ-pos n d
 
 swapped : (n d : ℕ) → 2 * n * d ≡ n * (2 * d)
-swapped n d = ap (λ k. k * d) (mul_comm 2 n) ∙ mul_assoc n 2 d
+swapped n d = omega arith
 
 -- 2 · z · d, grouped either way
 pub doubled : (z : ℤ) (d : ℕ) → (pos 2 *ℤ z) *ℤ pos d ≡ z *ℤ pos (2 * d)
@@ -39,16 +39,13 @@ mono a b d h =
 pub cancel : (a b : ℤ) (d : ℕ) → (a *ℤ pos d) <ℤ (b *ℤ pos d) → a <ℤ b
 cancel a b d h = by_lt_z a b (λ lt. lt) (λ le. absurd (let k = mono b a d le in omega (arith, ints)))
 
-one_more : (q d : ℕ) → suc q * d ≡ q * d + d
-one_more q d = let e : suc q ≡ q + 1 = omega arith in let s = add-mul q 1 d in ap (λ k. k * d) e ∙ omega arith
-
 -- a quotient rounded down
 pub quotient_low : (z : ℤ) (d : ℕ) → 0 < d → (int_div_euclid z (pos d) *ℤ pos d) ≤ℤ z
 quotient_low (pos a) d h = let e = pos-*ℤ-pos (a / d) d in let l = div-mul-le_self a d in omega (arith, ints)
 quotient_low (negsuc a) d h =
     let e = negsuc-*ℤ-pos (a / d) d in
     let l = lt-div-mul-add {a = a} h in
-    let s = one_more (a / d) d in
+    let s = suc-mul (a / d) d in
     omega (arith, ints)
 
 pub quotient_high : (z : ℤ) (d : ℕ) → 0 < d → z <ℤ ((int_div_euclid z (pos d) +ℤ pos 1) *ℤ pos d)
@@ -61,5 +58,5 @@ quotient_high (negsuc a) d h =
     let e = negsuc-*ℤ-pos (a / d) d in
     let m = more (negsuc (a / d)) d in
     let l = div-mul-le_self a d in
-    let s = one_more (a / d) d in
+    let s = suc-mul (a / d) d in
     omega (arith, ints)

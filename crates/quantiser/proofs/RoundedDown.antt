@@ -20,8 +20,8 @@ Down true n a b = (a ≤ n * b) × (n * b < a + b)
 cast_by_sign : (t s : Bool) (k n : ℕ) → t ≡ s → k ≡ n → n < 2 ^ 53 → cond t (neg_ℤ (pos (min k (2 ^ 63)))) (pos (min k (2 ^ 63 - 1))) ≡ signed s n
 cast_by_sign true true k n p e h = let q : min k (2 ^ 63) ≡ n = omega arith in ap (λ j. neg_ℤ (pos j)) q
 cast_by_sign false false k n p e h = let q : min k (2 ^ 63 - 1) ≡ n = omega arith in ap (λ j. pos j) q
-cast_by_sign true false k n p e h = let z : ◌≡◌ {A = ℕ} 0 1 = cc (p) in absurd (omega arith)
-cast_by_sign false true k n p e h = let z : ◌≡◌ {A = ℕ} 0 1 = cc (p) in absurd (omega arith)
+cast_by_sign true false k n p e h = cc
+cast_by_sign false true k n p e h = cc
 
 -- the cast of a float that holds a whole number
 cast : (w : Float) (s : Bool) (n : ℕ) → n < 2 ^ 53 → HasValue w s n 1 → to_signed 63 w ≡ signed s n
@@ -68,5 +68,5 @@ floored nan s a b bp bound v = absurd v
 floored (inf t) s a b bp bound v = absurd v
 floored (fin true m e) true a b bp bound v = from_below m e a b bp bound v.1
 floored (fin false m e) false a b bp bound v = from_above m e a b bp bound v.1
-floored (fin true m e) false a b bp bound v = let z : ◌≡◌ {A = ℕ} 0 1 = cc v.0 in absurd (omega arith)
-floored (fin false m e) true a b bp bound v = let z : ◌≡◌ {A = ℕ} 0 1 = cc v.0 in absurd (omega arith)
+floored (fin true m e) false a b bp bound v = cc
+floored (fin false m e) true a b bp bound v = cc

@@ -11,13 +11,15 @@ use Rattle.fault.specs.declared.Fault.{Fault}
 use Rattle.file.specs.Layout.{limited}
 use Rattle.file.specs.declared.layout.Table.{Table}
 use Rattle.quantiser.specs.Counts.{nearest, signed, twice_counts}
-use Rattle.quantiser.specs.Quantised.{CountsAreMeant, counts, quantise_refusal, refusal}
+use Rattle.quantiser.specs.Quantised.{CountsAreMeant, counts, quantise_refusal}
 use Rattle.quantiser.specs.declared.Entry.TheVariants.{Real}
 use Rattle.quantiser.proofs.Exact.{four_thousand, twice_4096, two}
 use Rattle.quantiser.proofs.FarOut.{Near, Far, far_is_refused, near_from}
 use Rattle.quantiser.proofs.OneNearest.{halves, nearest_from_below, nearest_is_nearest, one_nearest}
 use Rattle.quantiser.proofs.Products.{more, negated}
 use Rattle.quantiser.proofs.RoundedDown.{Down, floored}
+use Rattle.fault.specs.Rules.{refused}
+use Rattle.fault.specs.declared.rule.Rule.TheVariants.{FiniteNumber, CountLimits}
 
 positive : (x : Float) → 0 < (twice_counts x).denominator
 positive nan = lit< tt
@@ -56,7 +58,7 @@ rounded_down (fin s m x) fit near z e =
 
 passed : (b : Bool) → b ≡ true → T b
 passed true e = tt
-passed false e = let z : ◌≡◌ {A = ℕ} 0 1 = cc (e) in absurd (omega arith)
+passed false e = cc
 
 pub twice_from : (x size : Float) (z : ℤ) → fits binary64 x ≡ true → float_is_finite x ≡ true → size ≡ float_with_sign false x → lt (of_bits binary64 4647714815446351872) size ≡ false → z ≡ to_signed 63 (floor binary64 (mul binary64 (mul binary64 x (of_bits binary64 4661225614328463360)) (of_bits binary64 4611686018427387904))) → RoundedDown x z
 twice_from x size z fit f e near is = rounded_down x (passed _ fit) (near_from x size f e near) z is
@@ -68,19 +70,19 @@ counts_from x y z r h e q =
 -- the three exits
 unmet : {V : Type 0} (b : Bool) (f g : Fault) (o : Option Fault) (P : V → Type 0) → b ≡ false → g ≡ f → Answers (first_some (unless b f) o) P (Err g)
 unmet false f g o P e h = h
-unmet true f g o P e h = let z : ◌≡◌ {A = ℕ} 0 1 = cc (e) in absurd (omega arith)
+unmet true f g o P e h = cc
 
 met : {V : Type 0} (b : Bool) (f : Fault) (o : Option Fault) (P : V → Type 0) (r : Result V Fault) → b ≡ true → Answers o P r → Answers (first_some (unless b f) o) P r
 met true f o P r e h = h
-met false f o P r e h = let z : ◌≡◌ {A = ℕ} 0 1 = cc (e) in absurd (omega arith)
+met false f o P r e h = cc
 
-pub not_finite : (x : Float) (t : Table) (g : Fault) → float_is_finite x ≡ false → g ≡ refusal 31 → Answers (quantise_refusal (Real x) t) (λ v. v ≡ counts (Real x)) (Err g)
+pub not_finite : (x : Float) (t : Table) (g : Fault) → float_is_finite x ≡ false → g ≡ refused FiniteNumber 0 → Answers (quantise_refusal (Real x) t) (λ v. v ≡ counts (Real x)) (Err g)
 not_finite x t g e h = unmet (float_is_finite x) _ g _ _ e h
 
-pub too_far : (x : Float) (t : Table) (g : Fault) → float_is_finite x ≡ true → Far x → g ≡ refusal 32 → Answers (quantise_refusal (Real x) t) (λ v. v ≡ counts (Real x)) (Err g)
+pub too_far : (x : Float) (t : Table) (g : Fault) → float_is_finite x ≡ true → Far x → g ≡ refused CountLimits 0 → Answers (quantise_refusal (Real x) t) (λ v. v ≡ counts (Real x)) (Err g)
 too_far x t g e far h =
     let out = far_is_refused x t (nearest (twice_counts x)) far (nearest_is_nearest (twice_counts x) (positive x)) in
     met (float_is_finite x) _ _ _ (Err g) e (rw out h)
 
-pub in_limits : (x : Float) (t : Table) (v : ℤ) (r : Result ℤ Fault) → float_is_finite x ≡ true → v ≡ counts (Real x) → Answers (unless (limited t v) (refusal 32)) (λ w. w ≡ v) r → Answers (quantise_refusal (Real x) t) (λ w. w ≡ counts (Real x)) r
-in_limits x t v r e is h = met (float_is_finite x) _ _ _ r e (subst (λ y. Answers (unless (limited t y) (refusal 32)) (λ w. w ≡ y) r) is h)
+pub in_limits : (x : Float) (t : Table) (v : ℤ) (r : Result ℤ Fault) → float_is_finite x ≡ true → v ≡ counts (Real x) → Answers (unless (limited t v) (refused CountLimits 0)) (λ w. w ≡ v) r → Answers (quantise_refusal (Real x) t) (λ w. w ≡ counts (Real x)) r
+in_limits x t v r e is h = met (float_is_finite x) _ _ _ r e (subst (λ y. Answers (unless (limited t y) (refused CountLimits 0)) (λ w. w ≡ y) r) is h)

@@ -1,14 +1,15 @@
 -- What quantising an entry for a table comes to.
-use Rattle.std.specs.Prelude.{◌≡◌, ℕ, Bool, true, ℤ, Option}
+use Rattle.std.specs.Prelude.{◌≡◌, Bool, true, ℤ, Option}
 use Rattle.std.specs.Float.{float_is_finite}
 use Rattle.fault.specs.Refusals.{first_some, unless}
 use Rattle.fault.specs.declared.Fault.{Fault}
-use Rattle.fault.specs.declared.Layer.TheVariants.{Quantiser}
 use Rattle.file.specs.Layout.{limited}
 use Rattle.file.specs.declared.layout.Table.{Table}
 use Rattle.quantiser.specs.Counts.{Nearest, nearest, twice_counts}
 use Rattle.quantiser.specs.declared.Entry.{Entry}
 use Rattle.quantiser.specs.declared.Entry.TheVariants.{Counts, Real}
+use Rattle.fault.specs.Rules.{refused}
+use Rattle.fault.specs.declared.rule.Rule.TheVariants.{FiniteNumber, CountLimits}
 
 -- the counts that an entry stands for
 abbrev pub counts : Entry → ℤ
@@ -29,9 +30,6 @@ abbrev pub is_finite : Entry → Bool
 is_finite (Counts n) = true
 is_finite (Real x) = float_is_finite x
 
-abbrev pub refusal : ℕ → Fault
-refusal n = record { layer = Quantiser; number = n; place = 0 }
-
 -- 31: an infinity or no number at all; 32: counts that the table does not allow
 abbrev pub quantise_refusal : Entry → Table → Option Fault
-quantise_refusal e t = first_some (unless (is_finite e) (refusal 31)) (unless (limited t (counts e)) (refusal 32))
+quantise_refusal e t = first_some (unless (is_finite e) (refused FiniteNumber 0)) (unless (limited t (counts e)) (refused CountLimits 0))

@@ -1,5 +1,5 @@
 use super::Entry;
-use fault::{Fault, Layer};
+use fault::Layer;
 use file::layout::Table;
 
 // A count, in units: a power of two, so that the products with it are exact in these tests.
@@ -14,20 +14,25 @@ const TABLES: [Table; 6] = [
     Table::Generator,
 ];
 
-fn refused(number: u8) -> Result<i32, Fault> {
-    Err(Fault {
-        layer: Layer::Quantiser,
-        number,
-        place: 0,
-    })
+// The counts, or the refusal's layer, number and place.
+type Quantised = Result<i32, (Layer, u8, usize)>;
+
+fn refused(number: u8) -> Quantised {
+    Err((Layer::Quantiser, number, 0))
 }
 
-fn real(units: f64, table: Table) -> Result<i32, Fault> {
-    Entry::Real(units).quantise(table)
+fn quantised(entry: Entry, table: Table) -> Quantised {
+    entry
+        .quantise(table)
+        .map_err(|f| (f.layer(), f.number(), f.place))
 }
 
-fn counts(n: i64, table: Table) -> Result<i32, Fault> {
-    Entry::Counts(n).quantise(table)
+fn real(units: f64, table: Table) -> Quantised {
+    quantised(Entry::Real(units), table)
+}
+
+fn counts(n: i64, table: Table) -> Quantised {
+    quantised(Entry::Counts(n), table)
 }
 
 #[test]
@@ -47,11 +52,11 @@ fn the_middle_between_two_counts_goes_up(rt: HostRuntime) {
         (4095.5, 4095, 4096, 4096),
         (1048575.5, 1048575, 1048576, 1048576),
     ];
-    for (middle, below, at, above) in rows.iter() {
-        let units = *middle * COUNT;
-        assert_eq!(rt; real(units.next_down(), Table::Generator), Ok(*below));
-        assert_eq!(rt; real(units, Table::Generator), Ok(*at));
-        assert_eq!(rt; real(units.next_up(), Table::Generator), Ok(*above));
+    for (middle, below, at, above) in rows {
+        let units = middle * COUNT;
+        assert_eq!(rt; real(units.next_down(), Table::Generator), Ok(below));
+        assert_eq!(rt; real(units, Table::Generator), Ok(at));
+        assert_eq!(rt; real(units.next_up(), Table::Generator), Ok(above));
     }
 }
 
@@ -73,41 +78,41 @@ fn a_unit_is_4096_counts(rt: HostRuntime) {
 
 #[test]
 fn every_table_has_its_own_limits(rt: HostRuntime) {
-    for table in TABLES.iter() {
+    for table in TABLES {
         let least = i64::from(table.least());
         let greatest = i64::from(table.greatest());
-        assert_eq!(rt; counts(least, *table), Ok(table.least()));
-        assert_eq!(rt; counts(least - 1, *table), refused(32));
-        assert_eq!(rt; counts(greatest, *table), Ok(table.greatest()));
-        assert_eq!(rt; counts(greatest + 1, *table), refused(32));
+        assert_eq!(rt; counts(least, table), Ok(table.least()));
+        assert_eq!(rt; counts(least - 1, table), refused(32));
+        assert_eq!(rt; counts(greatest, table), Ok(table.greatest()));
+        assert_eq!(rt; counts(greatest + 1, table), refused(32));
     }
 }
 
 #[test]
 fn reals_are_held_to_the_limits_once_rounded(rt: HostRuntime) {
-    for table in TABLES.iter() {
+    for table in TABLES {
         let top = (f64::from(table.greatest()) + 0.5) * COUNT;
-        assert_eq!(rt; real(top.next_down(), *table), Ok(table.greatest()));
-        assert_eq!(rt; real(top, *table), refused(32));
+        assert_eq!(rt; real(top.next_down(), table), Ok(table.greatest()));
+        assert_eq!(rt; real(top, table), refused(32));
         let bottom = (f64::from(table.least()) - 0.5) * COUNT;
-        assert_eq!(rt; real(bottom, *table), Ok(table.least()));
-        assert_eq!(rt; real(bottom.next_down(), *table), refused(32));
+        assert_eq!(rt; real(bottom, table), Ok(table.least()));
+        assert_eq!(rt; real(bottom.next_down(), table), refused(32));
     }
 }
 
 #[test]
 fn the_ends_of_the_format(rt: HostRuntime) {
-    for table in TABLES.iter() {
-        assert_eq!(rt; real(f64::NAN, *table), refused(31));
-        assert_eq!(rt; real(f64::INFINITY, *table), refused(31));
-        assert_eq!(rt; real(f64::NEG_INFINITY, *table), refused(31));
-        assert_eq!(rt; real(f64::MAX, *table), refused(32));
-        assert_eq!(rt; real(-f64::MAX, *table), refused(32));
-        assert_eq!(rt; real(5e-324, *table), Ok(0));
-        assert_eq!(rt; real(-5e-324, *table), Ok(0));
-        assert_eq!(rt; real(f64::MIN_POSITIVE, *table), Ok(0));
-        assert_eq!(rt; counts(i64::MAX, *table), refused(32));
-        assert_eq!(rt; counts(i64::MIN, *table), refused(32));
+    for table in TABLES {
+        assert_eq!(rt; real(f64::NAN, table), refused(31));
+        assert_eq!(rt; real(f64::INFINITY, table), refused(31));
+        assert_eq!(rt; real(f64::NEG_INFINITY, table), refused(31));
+        assert_eq!(rt; real(f64::MAX, table), refused(32));
+        assert_eq!(rt; real(-f64::MAX, table), refused(32));
+        assert_eq!(rt; real(5e-324, table), Ok(0));
+        assert_eq!(rt; real(-5e-324, table), Ok(0));
+        assert_eq!(rt; real(f64::MIN_POSITIVE, table), Ok(0));
+        assert_eq!(rt; counts(i64::MAX, table), refused(32));
+        assert_eq!(rt; counts(i64::MIN, table), refused(32));
     }
 }
 

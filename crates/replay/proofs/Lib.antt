@@ -1,2 +1,1 @@
-pub mod EntriesRead
 pub mod Going

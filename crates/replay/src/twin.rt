@@ -28,6 +28,7 @@ fn smallest_file() -> [u8; 146]
 #[derive(Drop)]
 pub(crate) struct Twin {
     controller: Controller<Squared, Stepped, Stepped, Stepped>,
+    ghost pending: { controller.pending ≡ true },
 }
 
 impl Twin {
@@ -35,7 +36,6 @@ impl Twin {
     pub(crate) fn with_order(identity: u16) -> (Twin, Order)
         ensures order { result.1.identity ≡ identity }
         ensures identity { result.0.controller.identity ≡ identity }
-        ensures pending { result.0.controller.pending ≡ true }
     {
         let mut controller = Controller::new(
             identity,
@@ -45,20 +45,14 @@ impl Twin {
             Stepped::npc(),
         );
         let _ = controller.load(&smallest_file());
-        match controller.plan([0, 0], &[0, 0]) {
-            Ok(order) => (Twin { controller }, order),
-            Err(_) => unreachable(),
-        }
+        let order = controller.plan([0, 0], &[0, 0]).unwrap();
+        (Twin { controller }, order)
     }
 
     // Takes the order back.
     pub(crate) fn take_back(mut self, order: Order)
-        requires order { order.identity ≡ self.controller.identity }
-        requires pending { self.controller.pending ≡ true }
+        requires { order.identity ≡ self.controller.identity }
     {
-        match self.controller.withdraw(order) {
-            Ok(()) => {}
-            Err(_) => unreachable(),
-        }
+        self.controller.withdraw(order).unwrap();
     }
 }

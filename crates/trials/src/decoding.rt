@@ -1,60 +1,97 @@
 // The same problem handed to the decoder, over the legs and measures that it ships with.
+ghost use Rattle.trials.specs.declared.decoding.Either.TheVariants.{First, Second};
+
 use crate::leg::{Description, Kind};
 use crate::outcome::Outcome;
 use crate::problem::{Pricing, Problem};
+use arrayvec::ArrayVec;
+use decoder::decode;
 use decoder::task::Task;
-use decoder::{Mark, decode};
+use fault::Fault;
 use legs::barred::Barred;
 use legs::leg::Leg;
 use legs::listed::Listed;
 use legs::peak_first::PeakFirst;
-use legs::phases::{Legs, Phases};
+use legs::phases::Legs;
 use legs::squared::Squared;
 use legs::stepped::Stepped;
 
+// A leg of one kind or of another. The type of this name in crate `either` cannot be given a trait of a third crate.
 #[derive(Clone, Copy)]
-enum Built {
-    Stepped(Stepped),
-    Listed(Listed),
-    BarredStepped(Barred<Stepped>),
-    BarredListed(Barred<Listed>),
+enum Either<A, B> {
+    First(A),
+    Second(B),
 }
 
-fn under_bar<L>(below: L, bar: bool) -> Barred<L> {
-    let mut leg = Barred::new(below);
-    leg.set_bar(bar);
-    leg
-}
+impl<A: Leg, B: Leg> Leg for Either<A, B> {
+    ghost model = { elim [ First a ↦ A.Leg.model a | Second b ↦ B.Leg.model b ] };
 
-fn built_listed(levels: &[i8; 5], masks: &[u8; 5], count: u8, rest: u8) -> Option<Listed> {
-    let n = usize::from(count);
-    let levels = levels.get(0..n)?;
-    let masks = masks.get(0..n)?;
-    Listed::new(levels, masks, rest).ok()
-}
+    ghost lawful = { elim [ First a ↦ A.Leg.lawful a | Second b ↦ B.Leg.lawful b ] };
 
-// The leg that a description is of. None where it is refused.
-fn build(leg: &Description) -> Option<Built> {
-    match leg.kind {
-        Kind::Stepped { reach, stride } => {
-            let below = Stepped::new(reach, stride).ok()?;
-            Some(match leg.bar {
-                None => Built::Stepped(below),
-                Some(bar) => Built::BarredStepped(under_bar(below, bar)),
-            })
+    fn positions(&self) -> u8 {
+        match self {
+            Either::First(leg) => leg.positions(),
+            Either::Second(leg) => leg.positions(),
         }
-        Kind::Listed {
-            count,
-            levels,
-            masks,
-            rest,
-        } => {
-            let below = built_listed(&levels, &masks, count, rest)?;
-            Some(match leg.bar {
-                None => Built::Listed(below),
-                Some(bar) => Built::BarredListed(under_bar(below, bar)),
-            })
+    }
+
+    fn level(&self, position: u8) -> i8 {
+        match self {
+            Either::First(leg) => leg.level(position),
+            Either::Second(leg) => leg.level(position),
         }
+    }
+
+    fn permits(&self, from: u8, to: u8) -> bool {
+        match self {
+            Either::First(leg) => leg.permits(from, to),
+            Either::Second(leg) => leg.permits(from, to),
+        }
+    }
+
+    fn rest(&self) -> u8 {
+        match self {
+            Either::First(leg) => leg.rest(),
+            Either::Second(leg) => leg.rest(),
+        }
+    }
+}
+
+type Bare = Either<Stepped, Listed>;
+
+type Built = Either<Bare, Barred<Bare>>;
+
+impl TryFrom<&Kind> for Bare {
+    type Error = Fault;
+
+    fn try_from(kind: &Kind) -> Result<Bare, Fault> {
+        match kind {
+            Kind::Stepped { reach, stride } => Ok(Either::First(Stepped::new(*reach, *stride)?)),
+            Kind::Listed { positions, rest } => {
+                let mut levels = ArrayVec::<i8, 5>::new();
+                let mut masks = ArrayVec::<u8, 5>::new();
+                // there are no more than five, so both find room
+                let _ = levels.extend(positions.iter().map(|position| position.level));
+                let _ = masks.extend(positions.iter().map(|position| position.mask));
+                Ok(Either::Second(Listed::new(&levels, &masks, *rest)?))
+            }
+        }
+    }
+}
+
+impl TryFrom<&Description> for Built {
+    type Error = Fault;
+
+    fn try_from(leg: &Description) -> Result<Built, Fault> {
+        let below = Bare::try_from(&leg.kind)?;
+        Ok(match leg.bar {
+            None => Either::First(below),
+            Some(bar) => {
+                let mut barred = Barred::new(below);
+                barred.set_bar(bar);
+                Either::Second(barred)
+            }
+        })
     }
 }
 
@@ -69,59 +106,17 @@ fn posed(problem: &Problem) -> Option<Task> {
     )
 }
 
-fn over_legs<L: Phases>(problem: &Problem, legs: &L, limit: u32) -> Option<Outcome> {
-    let task = posed(problem)?;
-    match problem.pricing {
-        Pricing::Squared => {
-            let answer = decode(legs, &Squared, &task, limit);
-            Some(Outcome {
-                sequence: answer.sequence,
-                cost: (answer.cost, 0),
-                count: answer.count,
-                certified: answer.mark == Mark::Certified,
-            })
-        }
-        Pricing::PeakFirst => {
-            let answer = decode(legs, &PeakFirst, &task, limit);
-            Some(Outcome {
-                sequence: answer.sequence,
-                cost: answer.cost,
-                count: answer.count,
-                certified: answer.mark == Mark::Certified,
-            })
-        }
-    }
-}
-
-fn over_two<A: Leg + Copy, B: Leg + Copy>(
-    problem: &Problem,
-    a: A,
-    b: B,
-    limit: u32,
-) -> Option<Outcome> {
-    match build(&problem.c)? {
-        Built::Stepped(c) => over_legs(problem, &Legs { a, b, c }, limit),
-        Built::Listed(c) => over_legs(problem, &Legs { a, b, c }, limit),
-        Built::BarredStepped(c) => over_legs(problem, &Legs { a, b, c }, limit),
-        Built::BarredListed(c) => over_legs(problem, &Legs { a, b, c }, limit),
-    }
-}
-
-fn over_one<A: Leg + Copy>(problem: &Problem, a: A, limit: u32) -> Option<Outcome> {
-    match build(&problem.b)? {
-        Built::Stepped(b) => over_two(problem, a, b, limit),
-        Built::Listed(b) => over_two(problem, a, b, limit),
-        Built::BarredStepped(b) => over_two(problem, a, b, limit),
-        Built::BarredListed(b) => over_two(problem, a, b, limit),
-    }
-}
-
 // What the decoder answers. None where a leg or the task is refused, as none of those tried may be.
 pub(crate) fn decoded(problem: &Problem, limit: u32) -> Option<Outcome> {
-    match build(&problem.a)? {
-        Built::Stepped(a) => over_one(problem, a, limit),
-        Built::Listed(a) => over_one(problem, a, limit),
-        Built::BarredStepped(a) => over_one(problem, a, limit),
-        Built::BarredListed(a) => over_one(problem, a, limit),
-    }
+    let [a, b, c] = &problem.legs;
+    let legs = Legs {
+        a: Built::try_from(a).ok()?,
+        b: Built::try_from(b).ok()?,
+        c: Built::try_from(c).ok()?,
+    };
+    let task = posed(problem)?;
+    Some(match problem.pricing {
+        Pricing::Squared => decode(&legs, &Squared, &task, limit).into(),
+        Pricing::PeakFirst => decode(&legs, &PeakFirst, &task, limit).into(),
+    })
 }

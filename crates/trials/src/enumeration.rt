@@ -1,15 +1,15 @@
 // The answer by the definitions: everything permitted is listed, and every due node is decided by asking all of it.
 // There is no search here.
+use crate::outcome::Cost;
 use crate::problem::{Pricing, Problem};
-use crate::word;
+use crate::word::Word;
 use std::alloc::{AllocError, Global};
 
-// A permitted beginning with what it costs: the sum of squares and 0, or the peak and the sum.
+// A beginning with what it costs.
 #[derive(Clone, Copy)]
-pub(crate) struct Beginning {
-    pub(crate) word: u32,
-    pub(crate) length: usize,
-    pub(crate) cost: (u64, u64),
+pub(crate) struct Beginning<'a> {
+    pub(crate) word: &'a [u8],
+    pub(crate) cost: Cost,
 }
 
 // Where the start came from.
@@ -23,220 +23,160 @@ pub(crate) enum Origin {
 
 // All that an answer is taken from, whatever the limit.
 #[derive(Drop)]
-pub(crate) struct Listing {
-    pub(crate) start: Beginning,
+pub(crate) struct Listing<'a> {
+    pub(crate) problem: &'a Problem,
+    pub(crate) start: Beginning<'a>,
     pub(crate) origin: Origin,
-    pub(crate) due: Vec<Beginning>,
+    pub(crate) due: Vec<Beginning<'a>>,
 }
 
-fn position(problem: &Problem, word: u32, j: usize) -> u8 {
-    word::entry(word, problem.entries(), j).unwrap_or(u8::MAX)
-}
-
-// Where entry j moves from.
-fn moved_from(problem: &Problem, word: u32, j: usize) -> u8 {
-    match j.checked_sub(3) {
-        None => problem.applied.get(j).copied().unwrap_or(u8::MAX),
-        Some(before) => position(problem, word, before),
+impl Problem {
+    // Where entry j moves from: the applied position of its phase, or the entry a stage before.
+    fn moved_from(&self, word: &[u8], j: usize) -> Option<u8> {
+        self.applied.iter().chain(word).nth(j).copied()
     }
-}
 
-fn entry_permitted(problem: &Problem, word: u32, j: usize) -> bool {
-    problem
-        .leg(j)
-        .permits(moved_from(problem, word, j), position(problem, word, j))
-}
+    fn permits(&self, word: &[u8]) -> bool {
+        let from = self.applied.iter().chain(word);
+        word.iter()
+            .zip(from)
+            .enumerate()
+            .all(|(j, (to, from))| self.leg(j).permits(*from, *to))
+    }
 
-fn permitted(problem: &Problem, word: u32, length: usize) -> bool {
-    for j in 0..length {
-        if !entry_permitted(problem, word, j) {
-            return false;
+    // The size of the difference of row j.
+    fn size(&self, word: &[u8], j: usize) -> u64 {
+        let reached = self
+            .row(j)
+            .iter()
+            .zip(word)
+            .enumerate()
+            .fold(0i64, |sum, (k, (coupling, position))| {
+                let level = self.leg(k).level(*position);
+                sum.saturating_add(i64::from(*coupling).saturating_mul(level))
+            });
+        let target = self.target.get(j).copied().unwrap_or(0);
+        i64::from(target).abs_diff(reached)
+    }
+
+    fn cost(&self, word: &[u8]) -> Cost {
+        let sizes = (0..word.len()).map(|j| self.size(word, j));
+        match self.pricing {
+            Pricing::Squared => Cost::Squares(sizes.fold(0u64, |sum, size| {
+                sum.saturating_add(size.saturating_mul(size))
+            })),
+            Pricing::PeakFirst => {
+                let (peak, sum) = sizes.fold((0u64, 0u64), |(peak, sum), size| {
+                    (peak.max(size), sum.saturating_add(size))
+                });
+                Cost::PeakAndSum(peak, sum)
+            }
         }
     }
-    true
-}
 
-// Row j has j + 1 entries, and 1 + 2 + .. + j stand above it.
-fn coupling(problem: &Problem, j: usize, k: usize) -> i64 {
-    let above = j.saturating_mul(j.saturating_add(1)) / 2;
-    i64::from(
-        problem
-            .triangle
-            .get(above.saturating_add(k))
-            .copied()
-            .unwrap_or(0),
-    )
-}
-
-fn difference(problem: &Problem, word: u32, j: usize) -> i64 {
-    let mut sum = 0i64;
-    for k in 0..j.saturating_add(1) {
-        let level = problem.leg(k).level(position(problem, word, k));
-        sum = sum.saturating_add(coupling(problem, j, k).saturating_mul(level));
+    // Whether a beginning has every entry.
+    pub(crate) fn is_full(&self, q: &Beginning) -> bool {
+        q.word.len() == self.entries()
     }
-    i64::from(problem.target.get(j).copied().unwrap_or(0)).saturating_sub(sum)
-}
 
-fn cost(problem: &Problem, word: u32, length: usize) -> (u64, u64) {
-    let mut squares = 0u64;
-    let mut peak = 0u64;
-    let mut sum = 0u64;
-    for j in 0..length {
-        let size = difference(problem, word, j).unsigned_abs();
-        squares = squares.saturating_add(size.saturating_mul(size));
-        peak = peak.max(size);
-        sum = sum.saturating_add(size);
-    }
-    match problem.pricing {
-        Pricing::Squared => (squares, 0),
-        Pricing::PeakFirst => (peak, sum),
-    }
-}
-
-// The permitted beginning of this number, if there is one.
-fn permitted_one(problem: &Problem, word: u32) -> Option<Beginning> {
-    let length = word::length(word, problem.entries())?;
-    if !permitted(problem, word, length) {
-        return None;
-    }
-    Some(Beginning {
-        word,
-        length,
-        cost: cost(problem, word, length),
-    })
-}
-
-// Every permitted beginning, in order.
-fn beginnings(heap: Global, problem: &Problem) -> Result<Vec<Beginning>, AllocError> {
-    let mut all = Vec::new(heap);
-    for word in 0..word::words(problem.entries()) {
-        if let Some(found) = permitted_one(problem, word) {
-            all.push(found)?;
+    fn beginning<'a>(&self, word: &'a [u8]) -> Beginning<'a> {
+        Beginning {
+            word,
+            cost: self.cost(word),
         }
     }
-    Ok(all)
-}
 
-// Those of full length.
-fn full_of(
-    heap: Global,
-    problem: &Problem,
-    all: &Vec<Beginning>,
-) -> Result<Vec<Beginning>, AllocError> {
-    let mut full = Vec::new(heap);
-    for q in all.iter() {
-        if q.length == problem.entries() {
-            full.push(*q)?;
-        }
+    // The permitted position for the entry after a beginning whose level is nearest to the unconstrained optimum, the
+    // lower one where two are as near.
+    fn nearest(&self, word: &[u8]) -> Option<u8> {
+        let j = word.len();
+        let leg = self.leg(j);
+        let from = self.moved_from(word, j)?;
+        let wanted = i64::from(*self.unconstrained.get(j)?);
+        (0..leg.positions())
+            .filter(|to| leg.permits(from, *to))
+            .min_by_key(|to| wanted.abs_diff(leg.level(*to).saturating_mul(4096)))
     }
-    Ok(full)
-}
 
-// How far the level of a position lies from the unconstrained optimum.
-fn distance(problem: &Problem, j: usize, position: u8) -> u64 {
-    let wanted = i64::from(problem.unconstrained.get(j).copied().unwrap_or(0));
-    wanted.abs_diff(problem.leg(j).level(position).saturating_mul(4096))
-}
+    // A loop, since each entry moves from an earlier one of the guess itself.
+    fn rounded_guess(&self) -> Option<Word> {
+        let mut word = Word::new();
+        for _ in 0..self.entries() {
+            let nearest = self.nearest(&word)?;
+            word.try_push(nearest).ok()?;
+        }
+        Some(word)
+    }
 
-// The nearest permitted position for entry j of a beginning that has the entries before it.
-fn nearest(problem: &Problem, word: u32, j: usize) -> Option<u8> {
-    let leg = problem.leg(j);
-    let from = moved_from(problem, word, j);
-    let mut found: Option<u8> = None;
-    for p in 0..leg.positions() {
-        let nearer = match found {
-            None => true,
-            Some(q) => distance(problem, j, p) < distance(problem, j, q),
+    // The remembered guess: each entry is the one of a stage later, and in the last stage that stage's own.
+    fn remembered_guess(&self, remembered: &[u8; 15]) -> Option<Word> {
+        let all = remembered.get(..self.entries())?;
+        let (_, later) = all.split_first_chunk::<3>()?;
+        let (_, last) = all.split_last_chunk::<3>()?;
+        let mut word = Word::try_from(later).ok()?;
+        word.try_extend_from_slice(last).ok()?;
+        Some(word)
+    }
+
+    // The start, and where it came from.
+    fn start<'a>(&self, all: &[Beginning<'a>]) -> Option<(Beginning<'a>, Origin)> {
+        let rounded = among(all, &self.rounded_guess()?)?;
+        let Some(remembered) = self.remembered else {
+            return Some((rounded, Origin::NothingRemembered));
         };
-        if leg.permits(from, p) && nearer {
-            found = Some(p);
-        }
+        let guess = self.remembered_guess(&remembered)?;
+        Some(match among(all, &guess) {
+            None => (rounded, Origin::NotPermitted),
+            Some(moved) if moved.cost < rounded.cost => (moved, Origin::Remembered),
+            Some(_) => (rounded, Origin::NotCheaper),
+        })
     }
-    found
 }
 
-fn rounded_guess(problem: &Problem) -> Option<Beginning> {
-    let mut word = 0u32;
-    for j in 0..problem.entries() {
-        let p = nearest(problem, word, j)?;
-        word = word::extended(word, problem.entries(), j, p)?;
-    }
-    permitted_one(problem, word)
-}
-
-// The number of the remembered guess: each entry is the one of a stage later, and in the last stage that stage's own.
-fn remembered_word(problem: &Problem, remembered: &[u8; 15]) -> Option<u32> {
-    let entries = problem.entries();
-    let mut word = 0u32;
-    for j in 0..entries {
-        let later = j.saturating_add(3);
-        let taken = if later < entries { later } else { j };
-        let p = remembered.get(taken).copied()?;
-        word = word::extended(word, entries, j, p)?;
-    }
-    Some(word)
-}
-
-// The remembered guess, where it is permitted.
-fn remembered_guess(problem: &Problem, remembered: &[u8; 15]) -> Option<Beginning> {
-    permitted_one(problem, remembered_word(problem, remembered)?)
-}
-
-// The start, and where it came from.
-fn start(problem: &Problem) -> Option<(Beginning, Origin)> {
-    let rounded = rounded_guess(problem)?;
-    let Some(remembered) = problem.remembered else {
-        return Some((rounded, Origin::NothingRemembered));
-    };
-    let Some(moved) = remembered_guess(problem, &remembered) else {
-        return Some((rounded, Origin::NotPermitted));
-    };
-    if moved.cost < rounded.cost {
-        Some((moved, Origin::Remembered))
-    } else {
-        Some((rounded, Origin::NotCheaper))
-    }
+// The one of these that a list of positions is.
+fn among<'a>(all: &[Beginning<'a>], word: &Word) -> Option<Beginning<'a>> {
+    all.iter().find(|q| q.word == word.as_slice()).copied()
 }
 
 // Whether nothing undercuts q: neither the start nor any full sequence that stands before it.
-fn is_open(start: &Beginning, full: &Vec<Beginning>, q: &Beginning) -> bool {
-    if q.cost > start.cost {
-        return false;
-    }
-    for f in full.iter() {
-        if f.word < q.word && f.cost < q.cost {
-            return false;
-        }
-    }
-    true
-}
-
-// Whether a search has to visit q, which is permitted.
-fn is_due(problem: &Problem, start: &Beginning, full: &Vec<Beginning>, q: &Beginning) -> bool {
-    if q.length == 1 {
-        return true;
-    }
-    match permitted_one(
-        problem,
-        word::shortened(q.word, problem.entries(), q.length),
-    ) {
-        None => false,
-        Some(parent) => is_open(start, full, &parent),
-    }
+fn is_open(start: &Beginning, full: &[Beginning], q: &Beginning) -> bool {
+    q.cost <= start.cost && !full.iter().any(|f| f.cost < q.cost && f.word < q.word)
 }
 
 // The due nodes of a problem, in order, and its start. None where the definitions give no start.
-pub(crate) fn list_due(heap: Global, problem: &Problem) -> Result<Option<Listing>, AllocError> {
-    let Some((start, origin)) = start(problem) else {
+pub(crate) fn list_due<'a>(
+    heap: Global,
+    problem: &'a Problem,
+    words: &'a [Word],
+) -> Result<Option<Listing<'a>>, AllocError> {
+    let all: Vec<Beginning> = words
+        .iter()
+        .map(|word| word.as_slice())
+        .filter(|word| problem.permits(word))
+        .map(|word| problem.beginning(word))
+        .collect(heap)?;
+    let Some((start, origin)) = problem.start(&all) else {
         return Ok(None);
     };
-    let all = beginnings(heap, problem)?;
-    let full = full_of(heap, problem, &all)?;
-    let mut due = Vec::new(heap);
-    for q in all.iter() {
-        if is_due(problem, &start, &full, q) {
-            due.push(*q)?;
-        }
-    }
-    Ok(Some(Listing { start, origin, due }))
+    let full: Vec<Beginning> = all
+        .iter()
+        .copied()
+        .filter(|q| problem.is_full(q))
+        .collect(heap)?;
+    let due = all
+        .iter()
+        .copied()
+        .filter(|q| match q.word {
+            [parent @ .., _] if !parent.is_empty() => {
+                is_open(&start, &full, &problem.beginning(parent))
+            }
+            _ => true,
+        })
+        .collect(heap)?;
+    Ok(Some(Listing {
+        problem,
+        start,
+        origin,
+        due,
+    }))
 }

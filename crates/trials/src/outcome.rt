@@ -1,15 +1,45 @@
 // What a decoding comes to, as the definitions have it.
 use crate::enumeration::{Beginning, Listing};
-use crate::problem::Problem;
-use crate::word;
+use decoder::{Answer, Mark};
+use std::array;
+
+// What a sequence costs under either measure.
+#[derive(Clone, Copy, PartialEq, Eq, PartialOrd, Ord)]
+pub(crate) enum Cost {
+    Squares(u64),
+    PeakAndSum(u64, u64),
+}
+
+impl From<u64> for Cost {
+    fn from(squares: u64) -> Cost {
+        Cost::Squares(squares)
+    }
+}
+
+impl From<(u64, u64)> for Cost {
+    fn from((peak, sum): (u64, u64)) -> Cost {
+        Cost::PeakAndSum(peak, sum)
+    }
+}
 
 // An answer in a form that both sides are brought to.
 #[derive(Clone, Copy, PartialEq, Eq)]
 pub(crate) struct Outcome {
     pub(crate) sequence: [u8; 15],
-    pub(crate) cost: (u64, u64),
+    pub(crate) cost: Cost,
     pub(crate) count: u32,
-    pub(crate) certified: bool,
+    pub(crate) mark: Mark,
+}
+
+impl<C: Into<Cost>> From<Answer<C>> for Outcome {
+    fn from(answer: Answer<C>) -> Outcome {
+        Outcome {
+            sequence: answer.sequence,
+            cost: answer.cost.into(),
+            count: answer.count,
+            mark: answer.mark,
+        }
+    }
 }
 
 // An outcome, and which ties it had to settle.
@@ -24,50 +54,43 @@ pub(crate) struct Settled {
     pub(crate) start_kept: bool,
 }
 
-fn lowest_cost(problem: &Problem, listing: &Listing, limit: usize) -> (u64, u64) {
-    let mut lowest = listing.start.cost;
-    for q in listing.due.iter().take(limit) {
-        if q.length == problem.entries() && q.cost < lowest {
-            lowest = q.cost;
-        }
+impl<'a> Listing<'a> {
+    // How many nodes are due.
+    pub(crate) fn count(&self) -> u32 {
+        u32::try_from(self.due.len()).unwrap_or(u32::MAX)
     }
-    lowest
-}
 
-// The last one visited that has this cost, and how many have it.
-fn last_at(
-    problem: &Problem,
-    listing: &Listing,
-    limit: usize,
-    cost: (u64, u64),
-) -> (Option<Beginning>, usize) {
-    let mut last: Option<Beginning> = None;
-    let mut count = 0usize;
-    for q in listing.due.iter().take(limit) {
-        if q.length == problem.entries() && q.cost == cost {
-            last = Some(*q);
-            count = count.saturating_add(1);
-        }
+    // The nodes that are visited under a limit.
+    fn visited(&self, limit: u32) -> &[Beginning<'a>] {
+        let limit = usize::try_from(limit).unwrap_or(usize::MAX);
+        self.due.get(..limit).unwrap_or(self.due.as_slice())
     }
-    (last, count)
-}
 
-// The answer under a limit.
-pub(crate) fn settle(problem: &Problem, listing: &Listing, limit: u32) -> Settled {
-    let due = u32::try_from(listing.due.len()).unwrap_or(u32::MAX);
-    let visited = usize::try_from(limit).unwrap_or(usize::MAX);
-    let cost = lowest_cost(problem, listing, visited);
-    let (last, count) = last_at(problem, listing, visited, cost);
-    let best = last.unwrap_or(listing.start);
-    Settled {
-        outcome: Outcome {
-            sequence: word::spelled(best.word, problem.entries()),
-            cost,
-            count: limit.min(due),
-            certified: due <= limit,
-        },
-        start_tied: cost == listing.start.cost && best.word != listing.start.word,
-        visited_tied: count > 1,
-        start_kept: count == 0,
+    // The answer under a limit: of the cheapest full sequences that are visited the last, or else the start.
+    pub(crate) fn settle(&self, limit: u32) -> Settled {
+        let visited = self.visited(limit);
+        let cost = visited
+            .iter()
+            .filter(|q| self.problem.is_full(q))
+            .fold(self.start.cost, |lowest, q| lowest.min(q.cost));
+        let is_cheapest = |q: &&Beginning| self.problem.is_full(q) && q.cost == cost;
+        let last = visited.iter().filter(is_cheapest).last();
+        let ties = visited.iter().filter(is_cheapest).count();
+        let best = last.unwrap_or(&self.start);
+        Settled {
+            outcome: Outcome {
+                sequence: array::from_fn(|j| best.word.get(j).copied().unwrap_or(0)),
+                cost,
+                count: limit.min(self.count()),
+                mark: if self.count() <= limit {
+                    Mark::Certified
+                } else {
+                    Mark::Stopped
+                },
+            },
+            start_tied: cost == self.start.cost && best.word != self.start.word,
+            visited_tied: ties > 1,
+            start_kept: ties == 0,
+        }
     }
 }

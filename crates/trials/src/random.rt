@@ -11,21 +11,21 @@ impl Random {
     }
 
     // A number below n, and 0 where there is none.
-    pub(crate) fn below(&mut self, n: u64) -> u64 {
+    pub(crate) fn below<T: Into<u64> + TryFrom<u64> + Default + Drop>(&mut self, n: T) -> T
+    where
+        T::Error: Drop,
+    {
         self.state = self
             .state
             .wrapping_mul(6_364_136_223_846_793_005)
             .wrapping_add(1_442_695_040_888_963_407);
-        (self.state >> 33).checked_rem(n).unwrap_or(0)
+        let drawn = (self.state >> 33).checked_rem(n.into()).unwrap_or(0);
+        T::try_from(drawn).unwrap_or_default()
     }
 
     // Once in n times.
     pub(crate) fn once_in(&mut self, n: u64) -> bool {
         self.below(n) == 0
-    }
-
-    pub(crate) fn byte_below(&mut self, n: u64) -> u8 {
-        u8::try_from(self.below(n)).unwrap_or(0)
     }
 
     // A number from -most to most.

@@ -5,11 +5,9 @@ ghost use Rattle.controller.specs.View.{book_of};
 ghost use Rattle.console.specs.Turns.{AnswersLine};
 
 use super::Console;
-use crate::calls::respond;
 use crate::printing::{ROOM, put_answer};
-use crate::refusal::console_fault;
 use controller::state::Controller;
-use fault::Fault;
+use fault::{Fault, Rule};
 use legs::squared::Squared;
 use legs::stepped::Stepped;
 
@@ -20,11 +18,7 @@ const MOST_BYTES: usize = 4096;
 fn front(file: &[u8]) -> &[u8]
     ensures { result.now ≡ take 4096 file.now }
 {
-    if file.len() > MOST_BYTES {
-        &file[0..MOST_BYTES]
-    } else {
-        file
-    }
+    &file[..MOST_BYTES.min(file.len())]
 }
 
 impl<'a> Console<'a> {
@@ -46,9 +40,9 @@ impl<'a> Console<'a> {
         ensures file { self.new.file ≡ self.old.file }
     {
         if out.len() < ROOM {
-            return Err(console_fault(45, 0));
+            return Err(Rule::AnswerBuffer.into());
         }
-        let answer = respond(&mut self.controller, self.file, line);
+        let answer = self.respond(line);
         Ok(put_answer(out, &answer))
     }
 }

@@ -1,38 +1,23 @@
 // How words are read off a line.
-ghost use Rattle.std.specs.Prelude.{◌≡◌, ℕ, ◌+◌, ◌-◌, ◌*◌, ◌<◌, ◌≤◌, [], ◌∷◌, length, drop, IfSome, ◌≢◌, slice_index};
+ghost use Rattle.std.specs.Prelude.{◌≡◌, ◌+◌, ◌<◌, [], ◌∷◌, not, length, IfSome};
+ghost use Rattle.std.specs.List.{position, take_while};
 ghost use Rattle.console.specs.Tokens.{First, end_column, left, others};
-ghost use Rattle.console.specs.Words.{magnitude, number as number_of, phase as phase_of, words, words_from};
+ghost use Rattle.console.specs.Words.{is_space, magnitude, number as number_of, phase as phase_of, words};
 
 use super::{Token, Words};
 
-// Where the spaces from `start` on end.
-fn past_spaces(line: &[u8], start: usize) -> usize
-    requires { start ≤ length line.now }
-    ensures from { start ≤ result }
-    ensures within { result ≤ length line.now }
-    ensures same { words_from (result + 1) (drop result line.now) ≡ words_from (start + 1) (drop start line.now) }
-    ensures stops { result < length line.now → slice_index line.now result ≢ 32 }
+// Where the first word of some bytes begins, if they have one.
+fn first_byte(bytes: &[u8]) -> Option<usize>
+    ensures { result ≡ position (λ b. not (is_space b)) bytes.now }
 {
-    let mut i = start;
-    while i < line.len() && line[i] == b' ' {
-        i += 1;
-    }
-    i
+    bytes.iter().position(|b| *b != b' ')
 }
 
-// Where the word ends that `start` stands in.
-fn word_end(line: &[u8], start: usize) -> usize
-    requires { start ≤ length line.now }
-    ensures from { start ≤ result }
-    ensures within { result ≤ length line.now }
-    ensures inside { (k : ℕ) → start ≤ k → k < result → slice_index line.now k ≢ 32 }
-    ensures stops { result < length line.now → slice_index line.now result ≡ 32 }
+// How long the word is at the front of some bytes.
+fn word_len(bytes: &[u8]) -> usize
+    ensures { result ≡ length (take_while (λ b. not (is_space b)) bytes.now) }
 {
-    let mut i = start;
-    while i < line.len() && line[i] != b' ' {
-        i += 1;
-    }
-    i
+    bytes.iter().take_while(|b| **b != b' ').count()
 }
 
 // The number that one to seven digits write.
@@ -45,10 +30,7 @@ fn unsigned(digits: &[u8]) -> Option<u32>
     }
     let mut v = 0u32;
     for b in digits {
-        if *b < b'0' || *b > b'9' {
-            return None;
-        }
-        v = v * 10 + (*b - b'0') as u32;
+        v = v * 10 + (*b as char).to_digit(10)?;
     }
     Some(v)
 }
@@ -58,14 +40,8 @@ fn number(bytes: &[u8]) -> Option<i32>
     ensures { result ≡ number_of bytes.now }
 {
     match bytes {
-        [b'-', digits @ ..] => match unsigned(digits) {
-            Some(n) => Some(-(n as i32)),
-            None => None,
-        },
-        _ => match unsigned(bytes) {
-            Some(n) => Some(n as i32),
-            None => None,
-        },
+        [b'-', digits @ ..] => unsigned(digits).map(|n| -(n as i32)),
+        _ => unsigned(bytes).map(|n| n as i32),
     }
 }
 
@@ -107,21 +83,22 @@ impl<'a> Words<'a> {
         Words { line, at: 0 }
     }
 
-    // The next word, which is then behind.
+    // The next word, which is then behind. It is no Iterator's, since the end of the line is told too, with its column.
     pub(crate) fn next(&mut self) -> Token<'a>
         ensures first { First (end_column self.old) (left self.old) result }
         ensures left { left self.new ≡ others (left self.old) }
         ensures end { end_column self.new ≡ end_column self.old }
     {
         let line = self.line;
-        let from = past_spaces(line, self.at);
-        let to = word_end(line, from);
-        self.at = to;
-        if from == to {
+        let Some(spaces) = first_byte(&line[self.at..]) else {
+            self.at = line.len();
             return Token::End {
                 column: line.len() + 1,
             };
-        }
+        };
+        let from = self.at + spaces;
+        let to = from + word_len(&line[from..]);
+        self.at = to;
         token(from + 1, &line[from..to])
     }
 

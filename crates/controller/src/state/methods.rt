@@ -1,17 +1,18 @@
 // The calls on a controller, and its readings.
-ghost use Rattle.std.specs.Prelude.{◌≡◌, ◌<◌, [], ◌∷◌, slice_set};
+ghost use Rattle.std.specs.Prelude.{◌≡◌, cond, [], ◌∷◌, take};
 ghost use Rattle.std.specs.Option.{option_map};
-ghost use Rattle.controller.specs.Logbook.{first_day, first_stage, order_refusal};
-ghost use Rattle.controller.specs.View.{Bears, Does, HandsBack, Plans, bars_of, book_of, entry_at, plan_entries, plan_reply, reading_of, reply, reply_back, settings_of, setup_of};
+ghost use Rattle.controller.specs.Book.{plan_entries};
+ghost use Rattle.fault.specs.Refusals.{Answers};
+ghost use Rattle.controller.specs.Logbook.{first_day, first_stage, open_refusal, order_refusal};
+ghost use Rattle.controller.specs.View.{Bears, Does, HandsBack, Plans, Redeems, book_of, entry_at, plan_reply, reading_of, reply, reply_back, settings_of, setup_of};
 ghost use Rattle.controller.specs.declared.calls.Call.TheVariants.{Load, Limit, Bar, Free, Plan as PlanCall, Fire, Withdraw};
 
 use super::{Controller, Settings};
 use crate::calls::Reading;
 use crate::order::{Denied, Order};
-use crate::refusal::refused;
 use crate::sequence::Plan;
 use decoder::Mark;
-use fault::Fault;
+use fault::{Fault, Rule};
 use file::tables::read;
 use legs::barred::Barred;
 use legs::leg::Leg;
@@ -24,27 +25,16 @@ const FIRST_LIMIT: u32 = 130;
 // The highest limit.
 const HIGHEST_LIMIT: u32 = 100_000;
 
-// Sets or lifts the bar of one of the three phases.
-fn put_bar<A, B, C>(legs: &mut Legs<Barred<A>, Barred<B>, Barred<C>>, phase: u8, bar: bool)
-    requires { phase < 3 }
-    ensures bars { bars_of legs.new ≡ slice_set (bars_of legs.old) phase bar }
-    ensures below { (legs.new.a.below ≡ legs.old.a.below) × (legs.new.b.below ≡ legs.old.b.below) × (legs.new.c.below ≡ legs.old.c.below) }
-{
-    legs.set_bar(phase, bar);
-}
-
 // What a plan applies when it is fired.
 fn first_stage<K>(plan: &Option<Plan<K>>, applied: [u8; 3]) -> [u8; 3]
     ensures { result ≡ first_stage (option_map plan_entries plan.now) applied }
 {
-    match plan {
-        Some(p) => [
-            p.sequence.entries[0],
-            p.sequence.entries[1],
-            p.sequence.entries[2],
-        ],
-        None => applied,
-    }
+    plan.as_ref().map_or(
+        applied,
+        |p| -> [u8; 3]
+            ensures { result ≡ take 3 (plan_entries p.now) }
+        { p.sequence.first_stage() },
+    )
 }
 
 impl<M: Measure, A: Leg, B: Leg, C: Leg> Controller<M, A, B, C> {
@@ -73,13 +63,21 @@ impl<M: Measure, A: Leg, B: Leg, C: Leg> Controller<M, A, B, C> {
         }
     }
 
+    // Refuses a call while an order is open.
+    fn check_idle(&self) -> Result<(), Fault>
+        ensures { Answers (open_refusal self.now.pending) (λ _. Unit {0}) result }
+    {
+        if self.pending {
+            return Err(Rule::NoOpenOrder.into());
+        }
+        Ok(())
+    }
+
     // Takes the tables of a file. The last plan and the remembered sequence were made for other tables, and are forgotten.
     pub fn load(&mut self, file: &[u8]) -> Result<(), Fault>
         ensures { Does self.old (Load file.entry) (reply result) self.new }
     {
-        if self.pending {
-            return Err(refused(21));
-        }
+        self.check_idle()?;
         let tables = read(file)?;
         self.tables = Some(tables);
         self.remembered = None;
@@ -91,13 +89,23 @@ impl<M: Measure, A: Leg, B: Leg, C: Leg> Controller<M, A, B, C> {
     pub fn limit(&mut self, nodes: u32) -> Result<(), Fault>
         ensures { Does self.old (Limit nodes) (reply result) self.new }
     {
-        if self.pending {
-            return Err(refused(21));
-        }
-        if nodes < 1 || nodes > HIGHEST_LIMIT {
-            return Err(refused(23));
+        self.check_idle()?;
+        if !(1..=HIGHEST_LIMIT).contains(&nodes) {
+            return Err(Rule::NodeLimit.into());
         }
         self.limit = nodes;
+        Ok(())
+    }
+
+    // Sets the bar of a phase, or lifts it.
+    fn put_bar(&mut self, phase: u8, bar: bool) -> Result<(), Fault>
+        ensures { Does self.old (cond bar (Bar phase) (Free phase)) (reply result) self.new }
+    {
+        self.check_idle()?;
+        if phase > 2 {
+            return Err(Rule::PhaseNumber.into());
+        }
+        self.legs.set_bar(phase, bar);
         Ok(())
     }
 
@@ -105,28 +113,14 @@ impl<M: Measure, A: Leg, B: Leg, C: Leg> Controller<M, A, B, C> {
     pub fn bar(&mut self, phase: u8) -> Result<(), Fault>
         ensures { Does self.old (Bar phase) (reply result) self.new }
     {
-        if self.pending {
-            return Err(refused(21));
-        }
-        if phase > 2 {
-            return Err(refused(24));
-        }
-        put_bar(&mut self.legs, phase, true);
-        Ok(())
+        self.put_bar(phase, true)
     }
 
     // Lifts a phase's bar, whether it is barred or not.
     pub fn free(&mut self, phase: u8) -> Result<(), Fault>
         ensures { Does self.old (Free phase) (reply result) self.new }
     {
-        if self.pending {
-            return Err(refused(21));
-        }
-        if phase > 2 {
-            return Err(refused(24));
-        }
-        put_bar(&mut self.legs, phase, false);
-        Ok(())
+        self.put_bar(phase, false)
     }
 
     // Plans one period, from its two currents and the references of every stage. The order has to be fired or withdrawn
@@ -135,9 +129,7 @@ impl<M: Measure, A: Leg, B: Leg, C: Leg> Controller<M, A, B, C> {
         ensures plans { Plans (setup_of M.Measure.meaning A.Leg.model B.Leg.model C.Leg.model self.old) self.old (PlanCall currents references.entry) (plan_reply result self.new.plan) self.new }
         ensures bears { Bears self.old.identity self.new.pending result }
     {
-        if self.pending {
-            return Err(refused(21));
-        }
+        self.check_idle()?;
         let plan = self.search(&currents, references)?;
         self.plan = Some(plan);
         self.pending = true;
@@ -146,17 +138,25 @@ impl<M: Measure, A: Leg, B: Leg, C: Leg> Controller<M, A, B, C> {
         })
     }
 
-    // Why an order is turned down, if it is.
-    fn turned_down(&self, order: &Order) -> Option<Fault>
-        ensures { result ≡ order_refusal self.now.identity self.now.pending order.now.identity }
+    // Takes an order that can be closed now; any other is handed back, with the reason.
+    fn redeem(&self, order: Order) -> Result<(), Denied>
+        ensures { Redeems (order_refusal self.now.identity self.now.pending order.identity) order result }
     {
         if order.identity != self.identity {
-            return Some(refused(27));
+            return Err(Denied {
+                fault: Rule::OwnOrder.into(),
+                order,
+            });
         }
         if !self.pending {
-            return Some(refused(28));
+            return Err(Denied {
+                fault: Rule::OpenOrder.into(),
+                order,
+            });
         }
-        None
+        // a value that is not `Drop` is spent by taking it apart
+        let Order { identity: _ } = order;
+        Ok(())
     }
 
     // Applies the first stage of the plan that the order is for, and remembers the plan's sequence.
@@ -164,15 +164,9 @@ impl<M: Measure, A: Leg, B: Leg, C: Leg> Controller<M, A, B, C> {
         ensures does { Does self.old (Fire order.identity) (reply_back result) self.new }
         ensures back { HandsBack order result }
     {
-        if let Some(fault) = self.turned_down(&order) {
-            return Err(Denied { fault, order });
-        }
-        let Order { identity: _ } = order;
+        self.redeem(order)?;
         self.applied = first_stage(&self.plan, self.applied);
-        self.remembered = match self.plan {
-            Some(p) => Some(p.sequence),
-            None => None,
-        };
+        self.remembered = self.plan.map(|p| p.sequence);
         self.pending = false;
         Ok(())
     }
@@ -182,10 +176,7 @@ impl<M: Measure, A: Leg, B: Leg, C: Leg> Controller<M, A, B, C> {
         ensures does { Does self.old (Withdraw order.identity) (reply_back result) self.new }
         ensures back { HandsBack order result }
     {
-        if let Some(fault) = self.turned_down(&order) {
-            return Err(Denied { fault, order });
-        }
-        let Order { identity: _ } = order;
+        self.redeem(order)?;
         // what is applied stays, and so does the plan
         self.pending = false;
         Ok(())
@@ -195,62 +186,36 @@ impl<M: Measure, A: Leg, B: Leg, C: Leg> Controller<M, A, B, C> {
     pub fn entry(&self, i: usize) -> Option<u8>
         ensures { result ≡ entry_at self.now.plan i }
     {
-        match self.plan {
-            Some(p) => {
-                if 1 <= i && i <= p.sequence.len {
-                    Some(p.sequence.entries[i - 1])
-                } else {
-                    None
-                }
-            }
-            None => None,
-        }
+        let plan = self.plan.as_ref()?;
+        plan.sequence.as_slice().get(i.checked_sub(1)?).copied()
     }
 
     // What the last plan costs.
     pub fn cost(&self) -> Option<M::Cost>
         ensures { result ≡ option_map (λ p. p.cost) self.now.plan }
     {
-        match self.plan {
-            Some(p) => Some(p.cost),
-            None => None,
-        }
+        self.plan.as_ref().map(|p| p.cost)
     }
 
     // How many nodes the last plan counted.
     pub fn count(&self) -> Option<u32>
         ensures { result ≡ option_map (λ p. p.count) self.now.plan }
     {
-        match self.plan {
-            Some(p) => Some(p.count),
-            None => None,
-        }
+        self.plan.as_ref().map(|p| p.count)
     }
 
     // How the search for the last plan ended.
     pub fn mark(&self) -> Option<Mark>
         ensures { result ≡ option_map (λ p. p.mark) self.now.plan }
     {
-        match self.plan {
-            Some(p) => Some(p.mark),
-            None => None,
-        }
+        self.plan.as_ref().map(|p| p.mark)
     }
 
     // The last plan, whole.
     pub fn reading(&self) -> Option<Reading<M::Cost>>
         ensures { result ≡ option_map reading_of self.now.plan }
     {
-        match self.plan {
-            Some(p) => Some(Reading {
-                entries: p.sequence.entries,
-                len: p.sequence.len,
-                cost: p.cost,
-                count: p.count,
-                mark: p.mark,
-            }),
-            None => None,
-        }
+        self.plan.as_ref().map(|p| p.reading())
     }
 
     // The identity that its orders bear.
@@ -264,12 +229,8 @@ impl<M: Measure, A: Leg, B: Leg, C: Leg> Controller<M, A, B, C> {
     pub fn settings(&self) -> Settings
         ensures { result ≡ settings_of self.now }
     {
-        let horizon = match &self.tables {
-            Some(tables) => Some(tables.horizon().stages()),
-            None => None,
-        };
         Settings {
-            horizon,
+            horizon: self.tables.as_ref().map(|t| t.horizon().stages()),
             limit: self.limit,
             barred: [
                 self.legs.a.is_barred(),

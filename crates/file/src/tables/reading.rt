@@ -1,5 +1,5 @@
 // From the bytes of a file to its tables.
-ghost use Rattle.std.specs.Prelude.{◌≡◌, ◌+◌, ◌*◌, ◌<◌, ◌≤◌, length, None};
+ghost use Rattle.std.specs.Prelude.{◌≡◌, ◌+◌, ◌≤◌, length, if◌then◌else◌, Some, None, IsTrue, is_none, nat_le};
 ghost use Rattle.fault.specs.Refusals.{Answers};
 ghost use Rattle.file.specs.File.{entries_refusal, entry_refusal, file_of, file_refusal, header_refusal, horizon_of, tables_of, word};
 ghost use Rattle.file.specs.Layout.{cells, count as count_of};
@@ -10,37 +10,46 @@ use super::{MOST_ENTRIES, Tables};
 use crate::header::{ENTRY_BYTES, HEADER_BYTES, LETTERS, VERSION};
 use crate::horizon::Horizon;
 use crate::layout::{Cell, count};
-use crate::refusal::refusal;
-use fault::Fault;
+use crate::rows::Cells;
+use fault::{Fault, Rule};
 
-// The horizon of a file whose header and length are in order.
-fn read_header(bytes: &[u8]) -> Result<Horizon, Fault>
-    ensures { Answers (header_refusal bytes.now) (λ h. h.stages ≡ horizon_of bytes.now) result }
-{
-    let [s, d, t, low, high, stages, ..] = bytes else {
-        return Err(refusal(1, bytes.len()));
-    };
-    if [*s, *d, *t] != LETTERS {
-        return Err(refusal(2, 0));
-    }
-    if u16::from_le_bytes([*low, *high]) != VERSION {
-        return Err(refusal(3, 3));
-    }
-    let Some(horizon) = Horizon::of(*stages as usize) else {
-        return Err(refusal(4, 5));
-    };
-    if bytes.len() != HEADER_BYTES + ENTRY_BYTES * count(horizon) {
-        return Err(refusal(5, bytes.len()));
-    }
-    Ok(horizon)
+// The bytes of a file whose header and length are in order.
+#[derive(Clone, Copy)]
+struct Sheet<'a> {
+    bytes: &'a [u8],
+    horizon: Horizon,
+    ghost headed: { IsTrue (is_none (header_refusal bytes.now)) },
+    ghost planned: { horizon.stages ≡ horizon_of bytes.now },
 }
 
-// The number whose four bytes begin at an offset.
-fn word_at(bytes: &[u8], at: usize) -> i32
-    requires { at + 4 ≤ length bytes.now }
-    ensures { result ≡ word bytes.now at }
+// A file's bytes, once its header and its length are found in order.
+fn read_header(bytes: &[u8]) -> Result<Sheet<'_>, Fault>
+    ensures { Answers (header_refusal bytes.now) (λ s. s.bytes.now ≡ bytes.now) result }
 {
-    i32::from_le_bytes([bytes[at], bytes[at + 1], bytes[at + 2], bytes[at + 3]])
+    let [s, d, t, low, high, stages, ..] = bytes else {
+        return Err(Rule::HeaderBytes.at(bytes.len()));
+    };
+    if [*s, *d, *t] != LETTERS {
+        return Err(Rule::FileMark.into());
+    }
+    if u16::from_le_bytes([*low, *high]) != VERSION {
+        return Err(Rule::FileVersion.at(3));
+    }
+    let Some(horizon) = Horizon::of(*stages as usize) else {
+        return Err(Rule::FileHorizon.at(5));
+    };
+    if bytes.len() != HEADER_BYTES + ENTRY_BYTES * count(horizon) {
+        return Err(Rule::FileLength.at(bytes.len()));
+    }
+    Ok(Sheet { bytes, horizon })
+}
+
+// The number whose four bytes begin at an offset, where they are all there.
+pub fn word_at(bytes: &[u8], at: usize) -> Option<i32>
+    ensures { result ≡ (if nat_le (at + 4) (length bytes.now) then Some (word bytes.now at) else None) }
+{
+    let word = bytes.get(at..)?.first_chunk()?;
+    Some(i32::from_le_bytes(*word))
 }
 
 // The entry of a cell, at its offset.
@@ -48,45 +57,37 @@ fn read_entry(bytes: &[u8], cell: Cell, at: usize) -> Result<i32, Fault>
     requires { at + 4 ≤ length bytes.now }
     ensures { Answers (entry_refusal cell at (word bytes.now at)) (λ z. z ≡ word bytes.now at) result }
 {
-    let value = word_at(bytes, at);
+    let value = word_at(bytes, at).unwrap();
     if !cell.table.limits(value) {
-        return Err(refusal(6, at));
+        return Err(Rule::EntryLimits.at(at));
     }
     if cell.is_on_diagonal() && value < 1 {
-        return Err(refusal(7, at));
+        return Err(Rule::PositiveDiagonal.at(at));
     }
     Ok(value)
 }
 
-// The entries of a file whose header and length are in order.
-fn read_entries(bytes: &[u8], horizon: Horizon) -> Result<[i32; MOST_ENTRIES], Fault>
-    requires headed { header_refusal bytes.now ≡ None }
-    requires planned { horizon.stages ≡ horizon_of bytes.now }
-    ensures { Answers (entries_refusal (cells horizon.stages) bytes.now 6) (λ es. Entered bytes.now horizon.stages es (count_of horizon.stages)) result }
-{
-    let mut entries = [0; MOST_ENTRIES];
-    let mut cell = Cell::FIRST;
-    for k in 0..count(horizon) {
-        entries[k] = read_entry(bytes, cell, HEADER_BYTES + ENTRY_BYTES * k)?;
-        cell = cell.next(horizon);
+impl Sheet<'_> {
+    // Its entries.
+    fn entries(self) -> Result<[i32; MOST_ENTRIES], Fault>
+        ensures { Answers (entries_refusal (cells self.entry.horizon.stages) self.entry.bytes.now 6) (λ es. Entered self.entry.bytes.now self.entry.horizon.stages es (count_of self.entry.horizon.stages)) result }
+    {
+        let mut entries = [0; MOST_ENTRIES];
+        // Written by index: of what goes through a zipped `iter_mut`, a proof knows nothing.
+        for (k, cell) in Cells::of(self.horizon).enumerate() {
+            entries[k] = read_entry(self.bytes, cell, HEADER_BYTES + ENTRY_BYTES * k)?;
+        }
+        Ok(entries)
     }
-    Ok(entries)
-}
-
-// The tables of a file whose header and length are in order.
-fn read_tables(bytes: &[u8], horizon: Horizon) -> Result<Tables, Fault>
-    requires headed { header_refusal bytes.now ≡ None }
-    requires planned { horizon.stages ≡ horizon_of bytes.now }
-    ensures { Answers (entries_refusal (cells (horizon_of bytes.now)) bytes.now 6) (λ t. (data_of t ≡ tables_of bytes.now) × (file_of (data_of t) ≡ bytes.now)) result }
-{
-    let entries = read_entries(bytes, horizon)?;
-    Ok(Tables { horizon, entries })
 }
 
 // The tables that a file says, or why it is refused. An accepted file is the very file of its tables.
 pub fn read(bytes: &[u8]) -> Result<Tables, Fault>
     ensures { Answers (file_refusal bytes.now) (λ t. (data_of t ≡ tables_of bytes.now) × (file_of (data_of t) ≡ bytes.now)) result }
 {
-    let horizon = read_header(bytes)?;
-    read_tables(bytes, horizon)
+    let sheet = read_header(bytes)?;
+    Ok(Tables {
+        horizon: sheet.horizon,
+        entries: sheet.entries()?,
+    })
 }

@@ -1,5 +1,5 @@
 // From tables to the bytes of their file.
-ghost use Rattle.std.specs.Prelude.{◌≡◌, ◌+◌, ◌*◌, ◌<◌, ◌≤◌, ◌++◌, length, take, drop, OnErr};
+ghost use Rattle.std.specs.Prelude.{◌≡◌, ◌+◌, ◌≤◌, ◌++◌, length, take, drop, OnErr};
 ghost use Rattle.fault.specs.Refusals.{Answers};
 ghost use Rattle.file.specs.File.{file_length, header, le4};
 ghost use Rattle.file.specs.Tables.{Written, data_of, write_refusal};
@@ -8,8 +8,7 @@ use super::Tables;
 use crate::header::{ENTRY_BYTES, HEADER_BYTES, LETTERS, VERSION};
 use crate::horizon::Horizon;
 use crate::layout::count;
-use crate::refusal::refusal;
-use fault::Fault;
+use fault::{Fault, Rule};
 
 // Writes the header to the front of a buffer.
 fn put_header(out: &mut [u8], horizon: Horizon)
@@ -19,7 +18,7 @@ fn put_header(out: &mut [u8], horizon: Horizon)
     let stages = horizon.stages() as u8;
     let [s, d, t] = LETTERS;
     let [low, high] = VERSION.to_le_bytes();
-    out[0..HEADER_BYTES].copy_from_slice(&[s, d, t, low, high, stages]);
+    out[..HEADER_BYTES].copy_from_slice(&[s, d, t, low, high, stages]);
 }
 
 // Writes a number's four bytes at an offset.
@@ -27,7 +26,7 @@ fn put_word(out: &mut [u8], at: usize, value: i32)
     requires { at + 4 ≤ length out.old }
     ensures { out.new ≡ take at out.old ++ (le4 value ++ drop (at + 4) out.old) }
 {
-    out[at..at + 4].copy_from_slice(&value.to_le_bytes());
+    out[at..at + ENTRY_BYTES].copy_from_slice(&value.to_le_bytes());
 }
 
 impl Tables {
@@ -37,8 +36,10 @@ impl Tables {
         ensures { Written (data_of self.now) out.old out.new (file_length self.now.horizon.stages) }
     {
         put_header(out, self.horizon);
-        for k in 0..count(self.horizon) {
-            put_word(out, HEADER_BYTES + ENTRY_BYTES * k, self.entries[k]);
+        // Written at offsets: of what goes through `chunks_exact_mut`, a proof knows nothing.
+        let entries = &self.entries[..count(self.horizon)];
+        for (k, value) in entries.iter().enumerate() {
+            put_word(out, HEADER_BYTES + ENTRY_BYTES * k, *value);
         }
     }
 
@@ -49,7 +50,7 @@ impl Tables {
     {
         let len = self.len();
         if out.len() < len {
-            return Err(refusal(8, len));
+            return Err(Rule::FileBuffer.at(len));
         }
         self.put(out);
         Ok(len)

@@ -9,5 +9,5 @@ invariant-loop-call g l =
     let a = g.A.Leg.model in
     let b = g.B.Leg.model in
     let c = g.C.Leg.model in
-    let x = l.initial.ctl in
-    (l.call-index ≤ length l.calls) × (vec_len l.events ≡ l.call-index) × (length l.calls ≤ vec_capacity l.events) × Going m a b c (setup_of m a b c x) x.identity (book_of x) l.ctl l.held (take l.call-index l.calls) (vec_items l.events)
+    let x = l.initial.session.controller in
+    (l.call-index ≤ length l.calls) × (vec_len l.events ≡ l.call-index) × (length l.calls ≤ vec_capacity l.events) × Going m a b c (setup_of m a b c x) x.identity (book_of x) l.session.controller (take l.call-index l.calls) (vec_items l.events)

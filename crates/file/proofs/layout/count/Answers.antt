@@ -1,10 +1,5 @@
-use Rattle.file.proofs.Sizes.{count_closed, count_bound}
+use Rattle.file.proofs.Sizes.{count_closed}
 use Rattle.file.proofs.layout.count.Goals as goal
 
-pub returns : goal.returns
-returns c =
-    let h = c.args.horizon in
-    record {
-      value = rw c.stages-n.ensures (count_closed h.stages h.some h.few);
-      bound = rw (c.stages-n.ensures, count_closed h.stages h.some h.few) (count_bound h.stages h.some h.few);
-    }
+pub returns-clause-value : goal.returns-clause-value
+returns-clause-value c = let h = c.args.horizon in rw c.stages-n.ensures (count_closed h.stages h.some h.few)

@@ -1,9 +1,11 @@
-use Rattle.std.proofs.Common.{sym, ◌∙◌, rules}
-use Rattle.legs.proofs.Lowest.{lowest_more, lowest_found}
+use Rattle.std.proofs.Common.{◌≡◌, true, false, rules}
+use Rattle.std.proofs.lemmas.Iterator.{first_from_Range}
+use Rattle.legs.specs.Refusals.{level_stands}
+use Rattle.legs.proofs.Lowest.{searched}
 use Rattle.legs.proofs.listed.first_bad_level.Goals as goal
 
-pub loop-position-preserved : goal.loop-position-preserved
-loop-position-preserved c = search (rules, lowest_more)
-
-pub returns-then-not-level_stands : goal.returns-then-not-level_stands
-returns-then-not-level_stands c = sym (lowest_found _ c.loop-position.position _ c.loop-position.invariant (sym c.level_stands.ensures ∙ c.if-not-level_stands.true) c.loop-position-test.true)
+pub returns : goal.returns
+returns c =
+    let stands = level_stands c.args.levels.now in
+    searched stands _ c.find.result
+    (first_from_Range _ _ _ c.find.result (λ k. stands k ≡ false) (λ k. stands k ≡ true) c.find.ensures.ran (λ x q h. search rules) (λ x q h. search rules))

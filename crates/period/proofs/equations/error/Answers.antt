@@ -8,15 +8,17 @@ use Rattle.period.proofs.equations.error.Goals as goal
 
 pub overflow_sub-result : goal.overflow_sub-result
 overflow_sub-result c =
-    let t = c.args.tables.now in
-    let y = get_or c.args.references.now c.args.r (pos 0) in
-    let f = free (data_of t) (sound_data t) c.args.currents.now c.row.result.now c.args.r c.rounded_dot.result c.row.ensures.value c.requires.row c.requires.currents c.rounded_dot.ensures in
-    difference_fits c.rounded_dot.result y f.1 (omega (arith, c.requires.references c.args.r))
+    let i = c.args.inputs.now in
+    let t = i.tables.now in
+    let y = get_or i.references.now c.args.r (pos 0) in
+    let f = free (data_of t) (sound_data t) i.currents.now c.row.result.now c.args.r c.rounded_dot.result c.row.ensures.value c.requires i.currents_small c.rounded_dot.ensures in
+    difference_fits c.rounded_dot.result y f.1 (omega (arith, i.references_small c.args.r))
 
 pub returns : goal.returns
 unfolding error
 returns c =
-    let t = c.args.tables.now in
-    let y = get_or c.args.references.now c.args.r (pos 0) in
-    let f = free (data_of t) (sound_data t) c.args.currents.now c.row.result.now c.args.r c.rounded_dot.result c.row.ensures.value c.requires.row c.requires.currents c.rounded_dot.ensures in
-    difference_is c.rounded_dot.result y f.1 (omega (arith, c.requires.references c.args.r)) ∙ ap (λ z. z -ℤ y) f.0
+    let i = c.args.inputs.now in
+    let t = i.tables.now in
+    let y = get_or i.references.now c.args.r (pos 0) in
+    let f = free (data_of t) (sound_data t) i.currents.now c.row.result.now c.args.r c.rounded_dot.result c.row.ensures.value c.requires i.currents_small c.rounded_dot.ensures in
+    difference_is c.rounded_dot.result y f.1 (omega (arith, i.references_small c.args.r)) ∙ ap (λ z. z -ℤ y) f.0

@@ -1,22 +1,18 @@
-use Rattle.std.proofs.Common.{◌≡◌, ℕ, ◌*◌, subst, arith, w32, SFits}
-use Rattle.std.proofs.lemmas.Int.{to_z-of_z}
+use Rattle.std.proofs.Common.{◌*◌, arith, rules}
 use Rattle.file.specs.Tables.{data_of}
+use Rattle.file.proofs.Written.{sound_data}
 use Rattle.period.specs.Equations.{error}
-use Rattle.period.specs.Sums.{Filled}
-use Rattle.period.proofs.Fill.{filled_more, filled_none}
+use Rattle.period.proofs.Fill.{filled_within}
+use Rattle.period.proofs.Limits.{error_within}
 use Rattle.period.proofs.equations.errors.Goals as goal
 
-pub loop-r-init : goal.loop-r-init
-loop-r-init c = filled_none 10 _
-
-pub loop-r-preserved : goal.loop-r-preserved
-loop-r-preserved c =
-    let z = c.error.result in
-    let f : SFits w32 z = record { sfits = c.error.type_inv } in
-    filled_more 10 c.loop-r.r _ c.loop-r.errors _ (omega (arith, c.horizon.result.few)) (rw (to_z-of_z w32 z f) c.error.ensures) c.loop-r.invariant
+pub invariant_of-result : goal.invariant_of-result
+invariant_of-result c =
+    let i = c.args.inputs.now in
+    let d = data_of i.tables.now in
+    record {
+      within = filled_within 10 (2 * d.horizon) 40960 (error d i.currents.now i.references.now) _ (record { sized = c.first_rows.ensures.sized; value = λ k h. let is = c.first_rows.ensures.value k (omega arith) in search rules; rest = λ k h. c.first_rows.ensures.rest k (omega arith) }) (λ r h. error_within d (sound_data i.tables.now) i.currents.now i.references.now r h i.currents_small i.references_small);
+    }
 
 pub returns : goal.returns
-returns c =
-    let t = c.args.tables.now in
-    let last : c.loop-r.r ≡ 2 * (data_of t).horizon = omega arith in
-    subst (λ (m : ℕ). Filled 10 m (error (data_of t) c.args.currents.now c.args.references.now) c.loop-r.errors) last c.loop-r.invariant
+returns c = record { sized = c.first_rows.ensures.sized; value = λ k h. let is = c.first_rows.ensures.value k (omega arith) in search rules; rest = λ k h. c.first_rows.ensures.rest k (omega arith) }

@@ -1,22 +1,5 @@
-use Rattle.std.proofs.Common.{◌≡◌, ℕ, ◌*◌, get_or, pos, subst, arith, w32, SFits}
-use Rattle.std.proofs.lemmas.Int.{to_z-of_z}
-use Rattle.file.specs.Tables.{data_of}
-use Rattle.period.specs.Equations.{row_product}
-use Rattle.period.specs.Sums.{Filled}
-use Rattle.period.proofs.Fill.{filled_more, filled_none}
+use Rattle.std.proofs.Common.{arith, rules}
 use Rattle.period.proofs.equations.row_products.Goals as goal
 
-pub loop-j-init : goal.loop-j-init
-loop-j-init c = filled_none 15 _
-
-pub loop-j-preserved : goal.loop-j-preserved
-loop-j-preserved c =
-    let z = c.row_product.result in
-    let f : SFits w32 z = record { sfits = c.row_product.type_inv } in
-    filled_more 15 c.loop-j.j _ c.loop-j.products _ (omega (arith, c.horizon.result.few)) (rw (to_z-of_z w32 z f) c.row_product.ensures) c.loop-j.invariant
-
 pub returns : goal.returns
-returns c =
-    let t = c.args.tables.now in
-    let last : c.loop-j.j ≡ 3 * (data_of t).horizon = omega arith in
-    subst (λ (m : ℕ). Filled 15 m (row_product (data_of t) c.args.table (λ k. get_or c.args.thetas.now k (pos 0))) c.loop-j.products) last c.loop-j.invariant
+returns c = record { sized = c.first_rows.ensures.sized; value = λ k h. let is = c.first_rows.ensures.value k (omega arith) in search rules; rest = λ k h. c.first_rows.ensures.rest k (omega arith) }

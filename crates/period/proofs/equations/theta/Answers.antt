@@ -10,8 +10,8 @@ use Rattle.period.proofs.equations.theta.Goals as goal
 parts : (c : goal.After-weight_term) → Within (2 ^ 29) c.error_term.result × Within (2 ^ 29) c.weight_term.result
 parts c =
     let t = c.args.tables.now in
-    let a : Within 409600 c.error_term.result = rw c.error_term.ensures (error_term_within (data_of t) (sound_data t) (λ r. get_or c.args.errors.now r (pos 0)) c.args.j c.requires.row (λ r h. c.requires.errors r)) in
-    let b : Within 131072 c.weight_term.result = rw c.weight_term.ensures (weight_term_within (data_of t) (sound_data t) c.args.levels.now c.args.j c.requires.levels) in
+    let a : Within 409600 c.error_term.result = rw c.error_term.ensures (error_term_within (data_of t) (sound_data t) (λ r. get_or c.args.errors.now.values r (pos 0)) c.args.j c.requires (λ r h. c.args.errors.now.within r)) in
+    let b : Within 131072 c.weight_term.result = rw c.weight_term.ensures (weight_term_within (data_of t) (sound_data t) c.args.levels.now.values c.args.j c.args.levels.now.within) in
     (omega arith, omega arith)
 
 pub overflow_sub-result : goal.overflow_sub-result

@@ -1,22 +1,19 @@
-use Rattle.std.proofs.Common.{◌≡◌, ℕ, ◌*◌, get_or, pos, subst, arith, w32, SFits}
-use Rattle.std.proofs.lemmas.Int.{to_z-of_z}
+use Rattle.std.proofs.Common.{◌*◌, get_or, pos, arith, rules}
 use Rattle.file.specs.Tables.{data_of}
+use Rattle.file.proofs.Written.{sound_data}
 use Rattle.period.specs.Equations.{theta}
-use Rattle.period.specs.Sums.{Filled}
-use Rattle.period.proofs.Fill.{filled_more, filled_none}
+use Rattle.period.proofs.Fill.{filled_within}
+use Rattle.period.proofs.Limits.{theta_within}
 use Rattle.period.proofs.equations.thetas.Goals as goal
 
-pub loop-j-init : goal.loop-j-init
-loop-j-init c = filled_none 15 _
-
-pub loop-j-preserved : goal.loop-j-preserved
-loop-j-preserved c =
-    let z = c.theta.result in
-    let f : SFits w32 z = record { sfits = c.theta.type_inv } in
-    filled_more 15 c.loop-j.j _ c.loop-j.thetas _ (omega (arith, c.horizon.result.few)) (rw (to_z-of_z w32 z f) c.theta.ensures) c.loop-j.invariant
+pub invariant_of-result : goal.invariant_of-result
+invariant_of-result c =
+    let d = data_of c.args.tables.now in
+    let e = c.args.errors.now in
+    let u = c.args.levels.now in
+    record {
+      within = filled_within 15 (3 * d.horizon) 540672 (theta d (λ r. get_or e.values r (pos 0)) u.values) _ (record { sized = c.first_rows.ensures.sized; value = λ k h. let is = c.first_rows.ensures.value k (omega arith) in search rules; rest = λ k h. c.first_rows.ensures.rest k (omega arith) }) (λ j h. theta_within d (sound_data c.args.tables.now) (λ r. get_or e.values r (pos 0)) u.values j h (λ r l. e.within r) u.within);
+    }
 
 pub returns : goal.returns
-returns c =
-    let t = c.args.tables.now in
-    let last : c.loop-j.j ≡ 3 * (data_of t).horizon = omega arith in
-    subst (λ (m : ℕ). Filled 15 m (theta (data_of t) (λ r. get_or c.args.errors.now r (pos 0)) c.args.levels.now) c.loop-j.thetas) last c.loop-j.invariant
+returns c = record { sized = c.first_rows.ensures.sized; value = λ k h. let is = c.first_rows.ensures.value k (omega arith) in search rules; rest = λ k h. c.first_rows.ensures.rest k (omega arith) }

@@ -1,28 +1,45 @@
-use Rattle.std.proofs.Common.{◌≡◌, ◌<◌, ◌≤◌, nat_abs, sym, ap, ◌∙◌, subst, arith, w32, SFits, rules}
+use Rattle.std.proofs.Common.{◌≡◌, ◌<◌, ◌≤◌, ◌++◌, length, nat_abs, sym, ap, ◌∙◌, subst, arith, w32, SFits, rules, below_more}
 use Rattle.std.proofs.lemmas.Int.{to_z-of_z}
 use Rattle.std.proofs.lemmas.Bool.{le-leb, lt-leb}
+use Rattle.std.proofs.lemmas.Iterator.{YieldsList-from_slice}
+use Rattle.std.proofs.lemmas.Iterator.Consumers.{YieldsList-end, YieldsList-from_chain, YieldsList-from_enumerate, YieldsList-turn}
+use Rattle.std.proofs.lemmas.List.{length_push}
+use Rattle.std.proofs.lemmas.List.FromFn.{length-enumerate_from}
 use Rattle.period.specs.Inputs.{allowed, allowed_at}
-use Rattle.period.proofs.Chained.{at_the_end, here, one_more}
-use Rattle.period.proofs.Outside.{fails_first, none_fails}
+use Rattle.period.proofs.Outside.{at_turn, fails_first, none_fails}
 use Rattle.period.proofs.inputs.first_outside_range.Goals as goal
 
 pub loop-place-preserved : goal.loop-place-preserved
 loop-place-preserved c =
-    let v = c.in-Some.value.now in
-    let f : SFits w32 v = search rules in
-    let size : c.unsigned_abs.result ≡ nat_abs v = c.unsigned_abs.ensures.value ∙ ap nat_abs (to_z-of_z w32 v f) in
-    let small : nat_abs v ≤ 8192 = omega arith in
-    (search rules, search rules, one_more c.loop-place.invariant.2 _ c.in-Some.place c.in-Some.value c.in-Some.ensures.steps (le-leb (nat_abs v) 8192 small))
+    let i = c.args.currents.now in
+    let y = c.args.references.now in
+    let p = c.in-Some.place in
+    let v = c.in-Some.value in
+    let f : SFits w32 v.now = search rules in
+    let size : c.unsigned_abs.result ≡ nat_abs v.now = c.unsigned_abs.ensures.value ∙ ap nat_abs (to_z-of_z w32 v.now f) in
+    let small : nat_abs v.now ≤ 8192 = omega arith in
+    let road = YieldsList-from_enumerate (YieldsList-from_chain (YieldsList-from_slice i cc) (YieldsList-from_slice y cc) (cc) (cc)) (cc) in
+    let turn = at_turn (i ++ y) p (length c.loop-place.yielded) v.now (YieldsList-turn road c.loop-place.yielded c.loop-place.place-iterator c.loop-place.yielded_by c.next.result c.next.new.self (p, v) c.in-Some.is c.next.ensures.steps) in
+    rw (length_push c.loop-place.yielded (p, v)) (below_more _ _ c.loop-place.invariant (ap allowed (sym turn.2) ∙ le-leb (nat_abs v.now) 8192 small))
 
 pub returns-then-unsigned_abs-gt-GREATEST : goal.returns-then-unsigned_abs-gt-GREATEST
 returns-then-unsigned_abs-gt-GREATEST c =
-    let v = c.in-Some.value.now in
-    let f : SFits w32 v = search rules in
-    let size : c.unsigned_abs.result ≡ nat_abs v = c.unsigned_abs.ensures.value ∙ ap nat_abs (to_z-of_z w32 v f) in
-    let large : 8192 < nat_abs v = omega arith in
-    let k = here c.loop-place.invariant.2 _ c.in-Some.place c.in-Some.value c.in-Some.ensures.steps in
-    sym (fails_first (allowed_at c.args.currents.now c.args.references.now) _ c.in-Some.place k.1
-    (λ j lt. c.loop-place.invariant.2.before j (subst (λ n. j < n) k.0 lt)) (ap allowed k.2 ∙ lt-leb (nat_abs v) 8192 large))
+    let i = c.args.currents.now in
+    let y = c.args.references.now in
+    let p = c.in-Some.place in
+    let v = c.in-Some.value in
+    let f : SFits w32 v.now = search rules in
+    let size : c.unsigned_abs.result ≡ nat_abs v.now = c.unsigned_abs.ensures.value ∙ ap nat_abs (to_z-of_z w32 v.now f) in
+    let large : 8192 < nat_abs v.now = omega arith in
+    let road = YieldsList-from_enumerate (YieldsList-from_chain (YieldsList-from_slice i cc) (YieldsList-from_slice y cc) (cc) (cc)) (cc) in
+    let turn = at_turn (i ++ y) p (length c.loop-place.yielded) v.now (YieldsList-turn road c.loop-place.yielded c.loop-place.place-iterator c.loop-place.yielded_by c.next.result c.next.new.self (p, v) c.in-Some.is c.next.ensures.steps) in
+    rw turn.0 (sym (fails_first (allowed_at i y) (length (i ++ y)) (length c.loop-place.yielded) turn.1 c.loop-place.invariant (ap allowed (sym turn.2) ∙ lt-leb (nat_abs v.now) 8192 large)))
 
 pub returns : goal.returns
-returns c = sym (none_fails (allowed_at c.args.currents.now c.args.references.now) _ (at_the_end c.loop-place.invariant.2 _ c.in-None.ensures.steps))
+returns c =
+    let i = c.args.currents.now in
+    let y = c.args.references.now in
+    let road = YieldsList-from_enumerate (YieldsList-from_chain (YieldsList-from_slice i cc) (YieldsList-from_slice y cc) (cc) (cc)) (cc) in
+    let end = YieldsList-end road c.loop-place.yielded c.loop-place.place-iterator c.loop-place.yielded_by c.next.result c.next.new.self c.in-None.is c.next.ensures.steps in
+    let all : length c.loop-place.yielded ≡ length (i ++ y) = end.1 ∙ length-enumerate_from 0 (i ++ y) in
+    sym (none_fails (allowed_at i y) (length (i ++ y)) (λ k lt. c.loop-place.invariant k (subst (λ n. k < n) (sym all) lt)))

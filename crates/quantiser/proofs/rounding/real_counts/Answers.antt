@@ -8,7 +8,7 @@ use Rattle.quantiser.proofs.rounding.real_counts.Goals as goal
 pub returns-then-not-is_finite : goal.returns-then-not-is_finite
 returns-then-not-is_finite c =
     record {
-      outcome = not_finite c.args.x c.args.table _ (sym c.is_finite.ensures.value ∙ c.if-not-is_finite.true) c.refused.ensures;
+      outcome = not_finite c.args.x c.args.table _ (sym c.is_finite.ensures.value ∙ c.if-not-is_finite.true) c.into.ensures;
       meaning = meant_by_real c.args.x;
     }
 
@@ -16,7 +16,7 @@ pub returns-then-size : goal.returns-then-size
 returns-then-size c =
     let f = sym c.if-not-is_finite.ensures.value in
     record {
-      outcome = too_far c.args.x c.args.table _ f (far_from c.args.x c.abs-size.result f c.abs-size.ensures.value c.if-size.true) c.refused-then-size.ensures;
+      outcome = too_far c.args.x c.args.table _ f (far_from c.args.x c.abs-size.result f c.abs-size.ensures.value c.if-size.true) c.into-then-size.ensures;
       meaning = meant_by_real c.args.x;
     }
 

@@ -20,10 +20,9 @@ returns g c =
     let y = c.args.references.now in
     let got = granted (inputs_refusal d.horizon i y) (Solved d (period_given s b i y)) c.in_ok-period.period c.in_ok-period.ensures in
     let k = c.task-task.ensures in
-    let q = c.sequence_of.ensures in
+    let q = c.new.ensures in
     plan_granted s b d i y (option_map data_of x.tables) _ (ap (option_map data_of) c.in-Some.is) got.0
-    (λ st.
-    keeps s b d i y {memory = x.remembered} {p = c.in_ok-period.period} {k = c.task-task.result} c.decode-answer.result _
+    (keeps s b d i y {memory = x.remembered} {p = c.in_ok-period.period} {k = c.task-task.result} c.decode-answer.result _
     (record {
       few = t.horizon.few;
       loaded = ap (option_map data_of) c.in-Some.is;
@@ -36,4 +35,4 @@ returns g c =
       remembered = k.remembered;
       solved = got.1;
     })
-    c.decode-answer.ensures.defined c.decode-answer.ensures.promised q.entries q.len refl refl refl st)
+    c.decode-answer.ensures.defined c.decode-answer.ensures.promised q.entries q.len refl refl refl x.stands)

@@ -1,13 +1,14 @@
-use Rattle.std.proofs.Common.{rules}
-use Rattle.file.proofs.Cells.{cells_length, listed_there}
+use Rattle.std.proofs.lemmas.Iterator.Consumers.{YieldsList-from_first, nth_from_yields_List}
+use Rattle.file.specs.Layout.{cells}
+use Rattle.file.specs.Places.{rest_of}
+use Rattle.file.proofs.Cells.{cells_length}
+use Rattle.file.proofs.Places.{at_entry}
 use Rattle.file.proofs.layout.Cell.at.Goals as goal
 
-pub returns : goal.returns
-returns c = record {
-  value = search rules;
-  listed = λ d. listed_there c.args.horizon.stages c.args.entry c.loop-i.cell d (search rules);
-  counted = cells_length c.args.horizon.stages;
-}
+pub returns-clause-value : goal.returns-clause-value
+returns-clause-value c =
+    let n = c.args.horizon.stages in
+    at_entry n c.args.entry c.args.horizon.some c.nth.result (nth_from_yields_List c.nth.result c.nth.new.self c.args.entry c.nth.ensures.ran (YieldsList-from_first (λ x. x) rest_of (cells n) c.of.ensures))
 
-pub returns-then-entry-count : goal.returns-then-entry-count
-returns-then-entry-count c = record { value = search rules; listed = tt; counted = cells_length c.args.horizon.stages }
+pub returns-clause-counted : goal.returns-clause-counted
+returns-clause-counted c = cells_length c.args.horizon.stages

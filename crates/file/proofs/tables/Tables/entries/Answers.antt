@@ -8,6 +8,6 @@ pub returns : goal.returns
 returns c =
     let t = c.args.self.now in
     let n = t.horizon.stages in
-    let p = c.whole-start.result in
+    let p = c.whole.result in
     part_value (count n) t.entries p.start (p.end - p.start) (size c.args.table n) (omega arith) (omega arith)
-    ∙ ap (λ (i : ℕ). take (size c.args.table n) (drop i (data_of t).entries)) c.whole-start.ensures.start
+    ∙ ap (λ (i : ℕ). take (size c.args.table n) (drop i (data_of t).entries)) c.whole.ensures.start
