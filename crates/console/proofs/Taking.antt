@@ -1,5 +1,5 @@
 -- One call on the console's controller.
-use Rattle.std.proofs.Common.{◌≡◌, ℕ, ◌-◌, ◌≤◌, List, [], ◌∷◌, length, get_or, take, drop, ℤ, pos, Some, None, Option, refl, ap, ◌∙◌, subst, arith, Bor, true, rules}
+use Rattle.std.proofs.Common.{◌≡◌, ℕ, ◌-◌, ◌≤◌, List, [], ◌∷◌, length, get_or, take, drop, ℤ, pos, Some, None, Option, refl, ap, ◌∙◌, subst, arith, Bor}
 use Rattle.std.proofs.lemmas.List.{length-drop, take_all}
 use Rattle.std.specs.Option.{option_map}
 use Rattle.fault.specs.declared.Fault.{Fault}
@@ -12,14 +12,14 @@ use Rattle.legs.specs.declared.stepped.Stepped.{Stepped}
 use Rattle.controller.specs.Law.{Answered, AnsweredBy}
 use Rattle.controller.specs.Logbook.{Logbook, refusal, step}
 use Rattle.controller.specs.Problems.{Setup, built}
-use Rattle.controller.specs.View.{Does, Plans, Same, book_of, planned, reading_of}
+use Rattle.controller.specs.View.{Plans, Same, book_of, planned, reading_of}
 use Rattle.controller.specs.declared.calls.Call.TheVariants.{Plan}
 use Rattle.controller.specs.declared.calls.Reply.{Reply}
 use Rattle.controller.specs.declared.calls.Reply.TheVariants.{Granted, Planned, Denied}
 use Rattle.controller.specs.declared.sequence.Plan.{Plan as PlanOf}
-use Rattle.console.specs.Ready.{Npc, Own, Ready, Took, granted_with, spending}
-use Rattle.console.specs.declared.requests.Spend.{Spend}
-use Rattle.console.specs.declared.requests.Spend.TheVariants.{Fire as ToFire, Withdraw as ToWithdraw}
+use Rattle.console.specs.Ready.{Npc, Own, Took, granted_with}
+use Rattle.controller.specs.declared.order.Closing.{Closing}
+use Rattle.controller.specs.declared.order.Closing.TheVariants.{Fire as ToFire, Withdraw as ToWithdraw}
 use Rattle.console.specs.Texts.{npc}
 use Rattle.console.specs.Requests.{asked_with}
 use Rattle.console.specs.Turns.{Performed, identity, lent, npc_setup}
@@ -88,12 +88,7 @@ pub as_read : (p : Option (PlanOf ℕ)) → planned p ≡ granted_with (option_m
 as_read (Some p) = refl
 as_read None = refl
 
--- an order that is spent leaves the console's controller ready
-pub spent_ready : {ghosts_m : MeasureGhosts Squared ℕ} {ghosts_a ghosts_b ghosts_c : LegGhosts Stepped} → (how : Spend) (d e : Npc ghosts_m ghosts_a ghosts_b ghosts_c) (o : ℕ) → Own d → d.pending ≡ true → o ≡ d.identity → Does d (spending how o) Granted e → Ready e
-spent_ready ToFire d e o t q i k = search rules
-spent_ready ToWithdraw d e o t q i k = search rules
-
 -- a plan that is refused is all that was done, however its order would have been spent
-pub plan_refused : {ghosts_m : MeasureGhosts Squared ℕ} {ghosts_a ghosts_b ghosts_c : LegGhosts Stepped} → (file : List ℕ) (how : Spend) (vs : List ℤ) (c d : Npc ghosts_m ghosts_a ghosts_b ghosts_c) (f : Fault) → Took c (Plan (take 2 vs) (lent (drop 2 vs))) (Denied f) d → Performed file (asked_with how vs) (book_of c) (Denied f) (book_of d)
+pub plan_refused : {ghosts_m : MeasureGhosts Squared ℕ} {ghosts_a ghosts_b ghosts_c : LegGhosts Stepped} → (file : List ℕ) (how : Closing) (vs : List ℤ) (c d : Npc ghosts_m ghosts_a ghosts_b ghosts_c) (f : Fault) → Took c (Plan (take 2 vs) (lent (drop 2 vs))) (Denied f) d → Performed file (asked_with how vs) (book_of c) (Denied f) (book_of d)
 plan_refused file ToFire vs c d f t = record { answers = t.answers; book = t.after }
 plan_refused file ToWithdraw vs c d f t = record { answers = t.answers; book = t.after }

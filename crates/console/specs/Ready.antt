@@ -9,7 +9,6 @@ use Rattle.controller.specs.Law.{Answered}
 use Rattle.controller.specs.Logbook.{step}
 use Rattle.controller.specs.View.{book_of}
 use Rattle.controller.specs.declared.calls.Call.{Call}
-use Rattle.controller.specs.declared.calls.Call.TheVariants.{Fire, Withdraw}
 use Rattle.controller.specs.declared.calls.Reading.{Reading}
 use Rattle.controller.specs.declared.calls.Reply.{Reply}
 use Rattle.controller.specs.declared.calls.Reply.TheVariants.{Granted, Planned, Denied}
@@ -18,8 +17,6 @@ use Rattle.controller.specs.declared.state.Controller.{Controller}
 use Rattle.arrayvec.specs.ArrayVec.{array_vec_len}
 use Rattle.console.specs.declared.requests.Request.{Request}
 use Rattle.console.specs.declared.requests.Request.TheVariants.{Load as LoadRequest, Limit as LimitRequest, Bar as BarRequest, Free as FreeRequest, Plan as PlanRequest}
-use Rattle.console.specs.declared.requests.Spend.{Spend}
-use Rattle.console.specs.declared.requests.Spend.TheVariants.{Fire as ToFire, Withdraw as ToWithdraw}
 use Rattle.console.specs.Turns.{identity, npc_setup}
 
 -- a controller of three legs of these kinds, by the ghost members of its measure and its legs
@@ -69,8 +66,3 @@ Complete (LimitRequest z) = Unit {0}
 Complete (BarRequest p) = Unit {0}
 Complete (FreeRequest p) = Unit {0}
 Complete (PlanRequest n s) = 2 ≤ array_vec_len n
-
--- the call that spends an order
-abbrev pub spending : Spend → ℕ → Call
-spending ToFire order = Fire order
-spending ToWithdraw order = Withdraw order

@@ -6,11 +6,11 @@ use Rattle.console.specs.Tokens.{end_column, left}
 use Rattle.console.specs.declared.words.Words.{Words}
 use Rattle.console.specs.declared.requests.Request.{Request}
 use Rattle.console.specs.declared.requests.Request.TheVariants.{Load, Limit, Bar, Free, Plan}
-use Rattle.console.specs.declared.requests.Spend.{Spend}
-use Rattle.console.specs.declared.requests.Spend.TheVariants.{Fire, Withdraw}
+use Rattle.controller.specs.declared.order.Closing.{Closing}
+use Rattle.controller.specs.declared.order.Closing.TheVariants.{Fire, Withdraw}
 
 -- what these numbers ask for: a step is fired, and a try is withdrawn
-abbrev pub asked_with : Spend → List ℤ → Asked
+abbrev pub asked_with : Closing → List ℤ → Asked
 asked_with Fire xs = step xs
 asked_with Withdraw xs = try xs
 

@@ -6,3 +6,5 @@ mod printing;
 mod requests;
 pub mod state;
 mod words;
+
+pub use printing::ROOM;

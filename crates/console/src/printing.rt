@@ -17,11 +17,11 @@ use legs::leg::Leg;
 use legs::stepped::Stepped;
 
 // Room for any answer.
-pub(crate) const ROOM: usize = 96;
+pub const ROOM: usize = 96;
 
 // The text of an answer. Its parts are pushed one by one and not formatted: a `write!` may fail for all that its contract says,
 // also where there is room, and an answer may not.
-pub(crate) type Text = ArrayString<96>;
+pub(crate) type Text = ArrayString<ROOM>;
 
 // A number in decimal, with its minus.
 fn push_number<I: Integer>(text: &mut Text, n: I)
@@ -55,6 +55,7 @@ fn push_levels(text: &mut Text, plan: &Reading<u64>)
     push_level(text, plan.entries[2]);
 }
 
+// The console's own words for how a search ended.
 fn mark_text(mark: Mark) -> &'static str
     ensures is { result.now ≡ mark_word mark }
     ensures short { length result.now ≤ 9 }

@@ -10,6 +10,7 @@ ghost use Rattle.console.specs.declared.requests.Verb.TheVariants.{Limit as Limi
 
 use crate::words::{Token, Words, phase};
 use arrayvec::ArrayVec;
+use controller::order::Closing;
 use fault::{Fault, Rule};
 
 // The most bytes that a line may have.
@@ -29,21 +30,15 @@ pub(crate) enum Verb {
 // The numbers of a plan: its two currents, and two references for each of at most five stages.
 pub(crate) type Numbers = ArrayVec<i32, 12>;
 
-// How a plan's order is spent.
-#[derive(Clone, Copy)]
-pub(crate) enum Spend {
-    Fire,
-    Withdraw,
-}
-
-// What a line asks for.
+// What a line asks for, with a phase as the number that the controller takes. Of a plan's numbers there are two at least, which is
+// no type's to say, since LIMIT has one of the same list.
 #[derive(Drop)]
 pub(crate) enum Request {
     Load,
     Limit(i32),
     Bar(u8),
     Free(u8),
-    Plan(Numbers, Spend),
+    Plan(Numbers, Closing),
 }
 
 // The command that a word names, if it names one.
@@ -137,8 +132,8 @@ fn with_arguments(verb: Verb, words: &mut Words) -> Result<Request, Fault>
         Verb::Limit => Ok(Request::Limit(one_number(words)?)),
         Verb::Bar => Ok(Request::Bar(one_phase(words)?)),
         Verb::Free => Ok(Request::Free(one_phase(words)?)),
-        Verb::Step => Ok(Request::Plan(counted(words, 2, 12)?, Spend::Fire)),
-        Verb::Try => Ok(Request::Plan(counted(words, 2, 12)?, Spend::Withdraw)),
+        Verb::Step => Ok(Request::Plan(counted(words, 2, 12)?, Closing::Fire)),
+        Verb::Try => Ok(Request::Plan(counted(words, 2, 12)?, Closing::Withdraw)),
     }
 }
 

@@ -16,7 +16,7 @@ pub(crate) type Npc = Controller<Squared, Stepped, Stepped, Stepped>;
 #[derive(Drop)]
 pub struct Console<'a> {
     file: &'a [u8],
-    controller: Controller<Squared, Stepped, Stepped, Stepped>,
+    controller: Npc,
     ghost identity: { controller.identity ≡ 1 },
     ghost idle: { controller.pending ≡ false },
     ghost leg_a: { (controller.legs.a.below.reach ≡ 1) × (controller.legs.a.below.stride ≡ 1) },

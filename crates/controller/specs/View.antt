@@ -16,6 +16,8 @@ use Rattle.controller.specs.declared.calls.Reading.{Reading}
 use Rattle.controller.specs.declared.calls.Reply.{Reply}
 use Rattle.controller.specs.declared.calls.Reply.TheVariants.{Granted, Planned, Denied}
 use Rattle.controller.specs.declared.order.Denied.{Denied as TurnedDown}
+use Rattle.controller.specs.declared.order.Closing.{Closing}
+use Rattle.controller.specs.declared.order.Closing.TheVariants.{Fire as ByFire, Withdraw as ByWithdraw}
 use Rattle.controller.specs.declared.order.Order.{Order}
 use Rattle.controller.specs.declared.sequence.Plan.{Plan}
 use Rattle.controller.specs.declared.state.Controller.{Controller}
@@ -79,6 +81,11 @@ abbrev pub Untouched : {K X : Type 0} → Reply K → X → X → Type 0
 Untouched Granted before after = Unit {0}
 Untouched (Planned p) before after = Unit {0}
 Untouched (Denied f) before after = after ≡ before
+
+-- the call that closes an order of this identity
+abbrev pub closes : Closing → ℕ → Call
+closes ByFire id = Fire id
+closes ByWithdraw id = Withdraw id
 
 -- an order that is turned down comes back
 abbrev pub HandsBack : {X : Type 0} → Order → Result X TurnedDown → Type 0

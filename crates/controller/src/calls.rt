@@ -18,7 +18,8 @@ pub enum Call<'a> {
     Withdraw(u16),
 }
 
-// What is read of a plan. Of its entries the first `len` count: an array and a length, since the control path has no heap.
+// What is read of a plan. Of its entries the first `len` count: an array and a length,
+// since a reading is copied, which the library's lists of fixed room are not.
 #[derive(Clone, Copy, PartialEq, Eq, Debug)]
 pub struct Reading<K> {
     pub entries: [u8; 15],
@@ -28,7 +29,8 @@ pub struct Reading<K> {
     pub mark: Mark,
 }
 
-// What came of a call: it was granted, granted with a plan that was then read, or denied.
+// What came of a call: it was granted, granted with a plan that was then read, or denied. A recording holds these three: a
+// `Result` of an `Option` would leave them without names.
 #[derive(Clone, Copy, PartialEq, Eq, Debug)]
 pub enum Reply<K> {
     Granted,

@@ -19,6 +19,15 @@ impl Order {
     }
 }
 
+// How an order is closed.
+#[derive(Clone, Copy, PartialEq, Eq, Debug)]
+pub enum Closing {
+    // its plan is applied
+    Fire,
+    // nothing is applied
+    Withdraw,
+}
+
 // An order that was turned down, with the reason. The order is as good as before.
 #[derive(Debug)]
 pub struct Denied {

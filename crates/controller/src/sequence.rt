@@ -4,7 +4,8 @@ ghost use Rattle.std.specs.Prelude.{◌≡◌, ◌*◌, ◌≤◌, length};
 use crate::calls::Reading;
 use decoder::Mark;
 
-// Of the entries the first `len` count. An array and a length: the control path has no heap.
+// Of the entries the first `len` count. An array and a length, since a plan is copied, which the library's lists of fixed room
+// are not. A `Reading`, which is public, has them too, but with any array and any length in them.
 #[derive(Clone, Copy)]
 pub(crate) struct Sequence {
     pub(crate) entries: [u8; 15],
@@ -36,7 +37,7 @@ impl Sequence {
     {
         Sequence {
             entries,
-            len: 3 * stages as usize,
+            len: 3 * usize::from(stages),
         }
     }
 

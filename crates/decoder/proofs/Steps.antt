@@ -24,6 +24,11 @@ pub backward_set : (j : ℕ) (xs : List ℕ) (i v : ℕ) → j ≤ i → backwar
 backward_set zero xs i v h = refl
 backward_set (suc j) xs i v h = let ne : j ≢ i = omega arith in ap₂ ◌∷◌ (get_or-set_other xs i j v 0 ne) (backward_set j xs i v (omega arith))
 
+pub get_or_backward : (j : ℕ) (xs : List ℕ) (i : ℕ) → i < j → get_or (backward j xs) i 0 ≡ get_or xs (j - 1 - i) 0
+get_or_backward zero xs i h = absurd (omega arith)
+get_or_backward (suc j) xs zero h = let e : j ≡ suc j - 1 - 0 = omega arith in ap (λ k. get_or xs k 0) e
+get_or_backward (suc j) xs (suc i) h = get_or_backward j xs i (omega arith) ∙ (let e : j - 1 - i ≡ suc j - 1 - suc i = omega arith in ap (λ k. get_or xs k 0) e)
+
 pub backward_more : (j : ℕ) (xs : List ℕ) → backward (j + 1) xs ≡ get_or xs j 0 ∷ backward j xs
 backward_more j xs = ap (λ k. backward k xs) (add-one j)
 

@@ -82,7 +82,7 @@ impl<L: Phases, M: Measure> Problem<'_, L, M> {
         moved
     }
 
-    // A sequence with its cost.
+    // A sequence with its cost. A `fold` would ask what a measure answers of any cost, and it is asked of reached ones alone.
     fn priced(&self, sequence: [u8; 15]) -> Priced<M::Cost>
         ensures same { result.sequence ≡ sequence }
         ensures cost { let P = posed_by L.Phases M.Measure self.now in result.cost ≡ cost_to P sequence P.entries }

@@ -7,8 +7,8 @@ use crate::task::Task;
 use legs::measure::Measure;
 use legs::phases::Phases;
 
-// What is decoded. An entry or a row is an index below 15, and each question about one asks for that:
-// loops count them, and a type for them would be made anew at every step.
+// What is decoded. An entry or a row is an index below 15, and each question about one asks for that: the search goes up
+// and down over them, and a type for an index that may do both would say no more than the clause does.
 #[derive(Clone, Copy)]
 pub(crate) struct Problem<'a, L, M> {
     pub(crate) legs: &'a L,
@@ -16,13 +16,15 @@ pub(crate) struct Problem<'a, L, M> {
     pub(crate) task: &'a Task,
 }
 
-// The phase whose position entry j is.
+// The phase whose position entry j is, as a number: what three legs are asked by.
 fn phase_of(j: usize) -> u8
     ensures { result ≡ j % 3 }
 {
     (j % 3) as u8
 }
 
+// `posed_by` says in each contract which problem it is. A `Model` would say it once, but its value would name the costs of an open
+// measure, which the value of a model cannot.
 impl<L: Phases, M: Measure> Problem<'_, L, M> {
     // How many entries a sequence has.
     pub(crate) fn entries(&self) -> usize

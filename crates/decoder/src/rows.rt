@@ -31,6 +31,7 @@ impl<L: Phases, M: Measure> Problem<'_, L, M> {
         requires { j < 15 }
         ensures { result ≡ left_over (posed_by L.Phases M.Measure self.now) at.now j j }
     {
+        // a `for`, since the library bounds no partial sum of a `sum` of signed numbers
         let mut left = i64::from(self.task.target[j]);
         for (k, p) in at[..j].iter().enumerate() {
             left -= self.term(j, k, *p);

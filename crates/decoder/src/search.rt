@@ -11,7 +11,8 @@ use legs::phases::Phases;
 impl<L: Phases, M: Measure> Problem<'_, L, M> {
     // Visits the due nodes in order, from a start of known cost, until none is left or the limit is met.
     // Level j of the search tries positions for entry j; `costs` and `left` keep, for each level, the cost of the rows above
-    // and what the entries above leave of its row's target. A node that costs as much as the best so far is still entered.
+    // and what the entries above leave of its row's target; they are arrays of their own, since `at` is copied whole and the
+    // invariant speaks of each alone. A node that costs as much as the best so far is still entered.
     pub(crate) fn search_from(&self, start: Priced<M::Cost>, limit: u32) -> Answer<M::Cost>
         requires { Started (posed_by L.Phases M.Measure self.now) start }
         ensures computed { AsComputed (posed_by L.Phases M.Measure self.now) limit result }
@@ -22,7 +23,8 @@ impl<L: Phases, M: Measure> Problem<'_, L, M> {
         let mut costs = [self.measure.start(); 16];
         let mut left = [0i64; 15];
         left[0] = self.remainder(&at, 0);
-        // Two variables, and not one struct: where a loop replaces a struct of an open type, the language has no proof of it yet.
+        // Two variables and no struct of both, and the answer made where the search ends: tried otherwise, and the check makes no
+        // proof of a loop that puts such a struct in place, nor of one that ends in a mark alone.
         let mut best = start.sequence;
         let mut best_cost = start.cost;
         let mut j: usize = 0;

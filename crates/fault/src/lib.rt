@@ -43,8 +43,8 @@ impl fmt::Display for Layer {
     }
 }
 
-// A refusal: the rule that was broken, and where: an offset, a position, a column or a length, as the rule says, and 0
-// where it says nothing.
+// A refusal: the rule that was broken, and where: an offset, a position, a column or a length, as the rule says. Where the rule
+// says nothing the place is 0, and no `None`, since 0 is what a refusal prints.
 #[derive(Clone, Copy, PartialEq, Eq, Debug)]
 pub struct Fault {
     pub rule: Rule,

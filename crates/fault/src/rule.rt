@@ -8,65 +8,65 @@ use crate::{Fault, Layer};
 #[derive(Clone, Copy, PartialEq, Eq, Debug)]
 pub enum Rule {
     // a table file has its whole header
-    HeaderBytes,
+    HeaderBytes = 1,
     // it begins with its letters
-    FileMark,
+    FileMark = 2,
     // it is of the version that is read
-    FileVersion,
+    FileVersion = 3,
     // it has a horizon that there is
-    FileHorizon,
+    FileHorizon = 4,
     // it is as long as its horizon says
-    FileLength,
+    FileLength = 5,
     // each entry keeps its table's limits
-    EntryLimits,
+    EntryLimits = 6,
     // each entry on the generator's diagonal is positive
-    PositiveDiagonal,
+    PositiveDiagonal = 7,
     // a file fits in the buffer that it is written to
-    FileBuffer,
+    FileBuffer = 8,
     // a listed leg has two to five levels, and a mask for each
-    LevelCount,
+    LevelCount = 11,
     // its levels rise, within their limits
-    RisingLevels,
+    RisingLevels = 12,
     // its masks permit holding, and name positions that there are
-    HoldingMasks,
+    HoldingMasks = 13,
     // it rests in a position that there is
-    RestPosition,
+    RestPosition = 14,
     // a stepped leg has a reach that there is
-    LegReach,
+    LegReach = 15,
     // and a stride that there is
-    LegStride,
+    LegStride = 16,
     // no order is open
-    NoOpenOrder,
+    NoOpenOrder = 21,
     // tables are loaded
-    LoadedTables,
+    LoadedTables = 22,
     // the limit of nodes is one that there is
-    NodeLimit,
+    NodeLimit = 23,
     // the phase is one of three
-    PhaseNumber,
+    PhaseNumber = 24,
     // each current and reference keeps within its range
-    InputRange,
+    InputRange = 25,
     // there are references for every stage
-    ReferenceCount,
+    ReferenceCount = 26,
     // the order is one of this controller
-    OwnOrder,
+    OwnOrder = 27,
     // an order is open
-    OpenOrder,
+    OpenOrder = 28,
     // a real number is finite
-    FiniteNumber,
+    FiniteNumber = 31,
     // a number of counts keeps its table's limits
-    CountLimits,
+    CountLimits = 32,
     // a line begins with a command
-    CommandWord,
+    CommandWord = 41,
     // a phase is named by its letter
-    PhaseLetter,
+    PhaseLetter = 42,
     // a number is written as numbers are
-    NumberWord,
+    NumberWord = 43,
     // a line has the words that its command takes, and no more
-    WordCount,
+    WordCount = 44,
     // the buffer has room for any answer
-    AnswerBuffer,
+    AnswerBuffer = 45,
     // a line keeps its length
-    LineLength,
+    LineLength = 46,
 }
 
 impl Rule {
@@ -111,38 +111,7 @@ impl Rule {
     pub fn number(self) -> u8
         ensures { result ≡ number_of self }
     {
-        match self {
-            Rule::HeaderBytes => 1,
-            Rule::FileMark => 2,
-            Rule::FileVersion => 3,
-            Rule::FileHorizon => 4,
-            Rule::FileLength => 5,
-            Rule::EntryLimits => 6,
-            Rule::PositiveDiagonal => 7,
-            Rule::FileBuffer => 8,
-            Rule::LevelCount => 11,
-            Rule::RisingLevels => 12,
-            Rule::HoldingMasks => 13,
-            Rule::RestPosition => 14,
-            Rule::LegReach => 15,
-            Rule::LegStride => 16,
-            Rule::NoOpenOrder => 21,
-            Rule::LoadedTables => 22,
-            Rule::NodeLimit => 23,
-            Rule::PhaseNumber => 24,
-            Rule::InputRange => 25,
-            Rule::ReferenceCount => 26,
-            Rule::OwnOrder => 27,
-            Rule::OpenOrder => 28,
-            Rule::FiniteNumber => 31,
-            Rule::CountLimits => 32,
-            Rule::CommandWord => 41,
-            Rule::PhaseLetter => 42,
-            Rule::NumberWord => 43,
-            Rule::WordCount => 44,
-            Rule::AnswerBuffer => 45,
-            Rule::LineLength => 46,
-        }
+        self as u8
     }
 
     // The refusal by this rule, at a place.

@@ -40,7 +40,7 @@ impl fmt::Display for NotAHorizon {
 impl Error for NotAHorizon {}
 
 impl Horizon {
-    // A horizon of so many stages, where there is one.
+    // A horizon of so many stages, where there is one: `try_from` for whoever has no use for the error.
     pub fn of(stages: usize) -> Option<Horizon>
         ensures test { is_some result ≡ nat_le 1 stages && nat_le stages 5 }
         ensures value { IfSome result (λ h. h.stages ≡ stages) }

@@ -1,6 +1,7 @@
 // Which tables a file has, in which order, of which shape and within which limits.
 ghost use Rattle.std.specs.Prelude.{Some, ◌≡◌, ℕ, ◌+◌, ◌<◌, ◌≤◌, length, IfSome, MatchOption, ◌≢◌, slice_index_or};
 ghost use Rattle.file.specs.File.{offset};
+ghost use Rattle.file.specs.declared.layout.Table.TheVariants.{Generator};
 ghost use Rattle.file.specs.Layout.{CellOf, InTable, count as count_of, following as following_of, ahead as ahead_of, cells as cells_of, greatest as greatest_entry, place as place_of, limited as is_limited, least as least_entry, letter as letter_of, on_diagonal, rows as rows_of, size as size_of};
 
 use crate::header::{ENTRY_BYTES, HEADER_BYTES};
@@ -32,6 +33,18 @@ impl fmt::Display for Table {
     fn fmt<W: fmt::Write>(&self, f: &mut fmt::Formatter<W>) -> fmt::Result {
         f.pad(self.letter())
     }
+}
+
+impl Table {
+    // All of them, in that order.
+    pub const ALL: [Table; 6] = [
+        Table::Weight,
+        Table::Gamma,
+        Table::Upsilon,
+        Table::Unconstrained,
+        Table::Target,
+        Table::Generator,
+    ];
 }
 
 // One entry's place in a table.
@@ -126,23 +139,24 @@ impl Table {
         ensures bound { result.end ≤ 741 }
     {
         let start = self.ahead(horizon);
-        let end = match self {
-            Table::Generator => count(horizon),
-            _ => self.following().ahead(horizon),
+        let end = match self.following() {
+            Some(next) => next.ahead(horizon),
+            None => count(horizon),
         };
         start..end
     }
 
-    // The table behind this one in the file, or this one where it is the last.
-    pub(crate) fn following(self) -> Table
-        ensures { result ≡ following_of self }
+    // The table behind this one in the file, where it is not the last.
+    pub(crate) fn following(self) -> Option<Table>
+        ensures { MatchOption result (self ≡ Generator) (λ t. (self ≢ Generator) × (t ≡ following_of self)) }
     {
         match self {
-            Table::Weight => Table::Gamma,
-            Table::Gamma => Table::Upsilon,
-            Table::Upsilon => Table::Unconstrained,
-            Table::Unconstrained => Table::Target,
-            Table::Target | Table::Generator => Table::Generator,
+            Table::Weight => Some(Table::Gamma),
+            Table::Gamma => Some(Table::Upsilon),
+            Table::Upsilon => Some(Table::Unconstrained),
+            Table::Unconstrained => Some(Table::Target),
+            Table::Target => Some(Table::Generator),
+            Table::Generator => None,
         }
     }
 }

@@ -91,10 +91,7 @@ impl Row {
         if row + 1 < table.rows(horizon) {
             return Row::of(table, horizon, row + 1);
         }
-        match table {
-            Table::Generator => None,
-            _ => Row::of(table.following(), horizon, 0),
-        }
+        Row::of(table.following()?, horizon, 0)
     }
 
     // The place of one of its entries, where it has the column; made behind the test, as a `Row` is.

@@ -13,7 +13,7 @@ pub const NAME: &str = "tables.sdt";
 pub const MOST_BYTES: usize = 4096;
 
 // Reads until a buffer is full or nothing is left, and answers how many bytes were read.
-// The loop is written out, since `read_to_end` asks for memory.
+// The loop is written out, since `read_to_end` asks for memory, and has a count, since a loop must end.
 fn fill<R: Read>(reader: &mut R, buffer: &mut [u8]) -> io::Result<usize>
     ensures { IfOk result (λ n. n ≤ length buffer.new) }
 {

@@ -19,7 +19,8 @@ const MOST_ENTRIES: usize = 741;
 #[derive(Drop)]
 pub struct Tables {
     horizon: Horizon,
-    // in the order of the file; places past the last entry mean nothing
+    // in the order of the file; places past the last entry mean nothing: it is as long as the longest horizon needs, so that
+    // nothing is allocated
     entries: [i32; MOST_ENTRIES],
     ghost sized: { length entries ≡ 741 },
     ghost limited: { (x : Cell) → InTable horizon.stages x → Limited x.table (slice_index_or entries (place horizon.stages x) (pos 0)) },

@@ -25,9 +25,15 @@ mod tests {
         ]
     }
 
-    const LEAST: [i32; 6] = [0, -8192, -4096, -1048576, -65536, -1048576];
-
-    const GREATEST: [i32; 6] = [65536, 8192, 4096, 1048576, 65536, 1048576];
+    // The least and the greatest entry of each, in the same order.
+    const LIMITS: [(i32, i32); 6] = [
+        (0, 65536),
+        (-8192, 8192),
+        (-4096, 4096),
+        (-1048576, 1048576),
+        (-65536, 65536),
+        (-1048576, 1048576),
+    ];
 
     // A file of zeros but for ones on the diagonal of V.
     fn plain(heap: Global, n: u8) -> Result<Vec<u8>, AllocError> {
@@ -61,7 +67,7 @@ mod tests {
         Ok(copy)
     }
 
-    // A refusal's layer, number and place.
+    // A refusal's layer, number and place: by number, so that the list of rules is no witness of its own.
     type Refusal = (Layer, u8, usize);
 
     fn refused(bytes: &[u8]) -> Option<Refusal> {
@@ -89,12 +95,13 @@ mod tests {
         for n in 1u8..6 {
             let file = plain(rt.alloc(), n)?;
             let mut first = 6usize;
-            for (t, size) in sizes(n as usize).iter().enumerate() {
+            let tables = sizes(n as usize).into_iter().zip(LIMITS);
+            for (t, (size, (least, greatest))) in tables.enumerate() {
                 let last = first
                     .saturating_add(size.saturating_mul(4))
                     .saturating_sub(4);
                 for at in [first, last] {
-                    edges(&rt, &file, at, LEAST[t], GREATEST[t], t == 5)?;
+                    edges(&rt, &file, at, least, greatest, t == 5)?;
                 }
                 first = last.saturating_add(4);
             }

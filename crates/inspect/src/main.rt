@@ -32,14 +32,7 @@ fn show(rt: &HostRuntime, tables: &Tables) -> io::Result<()> {
     println!(rt; "{NAME}: a table file of version 1, {len} bytes")?;
     println!(rt; "horizon {stages}, weight on switching {weight}")?;
     println!(rt; "table   rows  columns  entries      least   greatest")?;
-    for table in [
-        Table::Weight,
-        Table::Gamma,
-        Table::Upsilon,
-        Table::Unconstrained,
-        Table::Target,
-        Table::Generator,
-    ] {
+    for table in Table::ALL {
         show_table(rt, tables, table)?;
     }
     Ok(())

@@ -48,7 +48,7 @@ pub fn refused_cell(bytes: &[u8], fault: Fault) -> Option<Cell>
         return None;
     }
     let stages = bytes.get(5)?;
-    let horizon = Horizon::of(*stages as usize)?;
+    let horizon = Horizon::of(usize::from(*stages))?;
     cell_at_offset(horizon, fault.place)
 }
 
@@ -65,7 +65,7 @@ pub(crate) fn table_of(word: &str) -> Option<Table> {
     }
 }
 
-// The entry that an argument writes: whole counts behind a '#', or else a real number of units.
+// The entry that an argument writes, likewise of this program alone: whole counts behind a '#', or else a real number of units.
 pub(crate) fn entry_of(text: &str) -> Option<Entry> {
     match text.strip_prefix("#") {
         Some(counts) => counts.parse().ok().map(Entry::Counts),

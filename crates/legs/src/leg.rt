@@ -2,7 +2,8 @@
 ghost use Rattle.std.specs.Prelude.{◌≡◌};
 ghost use Rattle.legs.specs.Model.{LegModel, Lawful};
 
-// A leg of an inverter. A question alters nothing.
+// A leg of an inverter. A question alters nothing. A move is two positions, as a caller has them: a type for it would only be
+// taken apart by every leg.
 pub trait Leg {
     ghost model: { Self → LegModel };
 

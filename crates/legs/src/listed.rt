@@ -99,7 +99,8 @@ fn level_stands(levels: &[i8], position: usize) -> bool
     (-2..=2).contains(&level) && (position == 0 || levels[position - 1] < level)
 }
 
-// The lowest position whose level may not stand.
+// The lowest position whose level may not stand. It and the search among the masks are one `find` each: over a test as a parameter
+// a contract could not name the test.
 fn first_bad_level(levels: &[i8]) -> Option<usize>
     ensures { result ≡ lowest_failing (level_stands levels.now) (length levels.now) }
 {

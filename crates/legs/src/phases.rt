@@ -32,8 +32,8 @@ pub trait Phases {
     ghost lawful: { (legs : Self) (phase : ℕ) → Lawful (models legs phase) };
 }
 
-// Three legs, each of a kind of its own. Every question matches on the phase, as the legs are of three types: to pick the
-// leg in one place would take a `dyn Leg`, and the search would pay for a call through it at every move.
+// Three legs, each of a kind of its own. Every question matches on the phase: the legs are of three types, and what could be any
+// one of them would be a `dyn Leg`, in place of the calls that the search has inlined.
 #[derive(Clone, Copy, PartialEq, Eq, Debug)]
 pub struct Legs<A, B, C> {
     pub a: A,

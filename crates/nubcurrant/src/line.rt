@@ -3,7 +3,7 @@ ghost use Rattle.std.specs.Prelude.{◌≡◌, [], ◌∷◌, ◌++◌, take};
 
 use arrayvec::ArrayVec;
 
-// The first bytes of a line: one more than a line may have, which is enough to see that it is too long. A line that is longer
+// The first bytes of a line: 121, one more than a line may have (a constant argument is written out and not computed), which is enough to see that it is too long. A line that is longer
 // takes no more room.
 pub(crate) type Line = ArrayVec<u8, 121>;
 

@@ -1,6 +1,7 @@
 // The console as a program: it loads `tables.sdt`, and answers the lines of standard input.
 #![tactic(auto)]
 
+use console::ROOM;
 use console::state::Console;
 use file::stored::{MOST_BYTES, front};
 use std::io;
@@ -12,7 +13,7 @@ use line::{Line, keep};
 
 // Answers one line, at once.
 fn reply(rt: &HostRuntime, console: &mut Console, line: &[u8]) -> io::Result<()> {
-    let mut out = [0u8; 96];
+    let mut out = [0u8; ROOM];
     let printed = console.answer(line, &mut out).unwrap();
     rt.stdout().write_all(&out[..printed])
 }
@@ -43,6 +44,7 @@ fn main(rt: HostRuntime) -> io::Result<()> {
     let mut input = rt.stdin();
     let mut part = [0u8; 4096];
     let mut line = Line::new();
+    // a count, since a loop must end
     for _ in 0..u64::MAX {
         let read = input.read(&mut part)?;
         if read == 0 {

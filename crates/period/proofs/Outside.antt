@@ -1,24 +1,14 @@
 -- The lowest place that fails a test, and what follows where none does.
-use Rattle.std.proofs.Common.{◌≡◌, ℕ, zero, suc, ◌+◌, ◌<◌, Bool, true, false, List, ◌++◌, length, get_or, ℤ, pos, nat_abs, Some, None, sym, refl, ap, ◌∙◌, ⊎_elim, zero-add, zero-le, arith}
+use Rattle.std.proofs.Common.{◌≡◌, ℕ, ◌+◌, ◌<◌, List, ◌++◌, length, get_or, ℤ, pos, nat_abs, None, sym, ap, ◌∙◌, ⊎_elim, zero-add, zero-le, arith}
 use Rattle.std.proofs.str.Laws.{order}
 use Rattle.std.specs.List.{enumerate_from}
 use Rattle.std.proofs.lemmas.List.FromFn.{get_or-enumerate_from, length-enumerate_from}
 use Rattle.std.proofs.lemmas.List.{get_or_default, get_or-append-add, get_or_append_left, get_or_past, length-append}
 use Rattle.std.proofs.lemmas.Bool.{leb-true}
-use Rattle.fault.specs.Refusals.{lowest_failing}
 use Rattle.legs.proofs.Lowest.{none_fails as all_allowed}
 use Rattle.period.specs.Inputs.{allowed_at, first_outside}
 use Rattle.period.specs.Sums.{EachWithin, Within}
 use Rattle.period.proofs.Bounds.{within_as}
-
-pub none_fails : (test : ℕ → Bool) (n : ℕ) → ((k : ℕ) → k < n → test k ≡ true) → lowest_failing test n ≡ None
-none_fails test zero h = refl
-none_fails test (suc n) h = rw (none_fails test n (λ k l. h k (omega arith)), h n (omega arith))
-
-pub fails_first : (test : ℕ → Bool) (n i : ℕ) → i < n → ((k : ℕ) → k < i → test k ≡ true) → test i ≡ false → lowest_failing test n ≡ Some i
-fails_first test zero i lt h f = absurd (omega arith)
-fails_first test (suc n) i lt h f =
-    ⊎_elim (λ l. rw (fails_first test n i l h f)) (λ l. let e : i ≡ n = omega arith in let q : test n ≡ false = ap test (sym e) ∙ f in rw (none_fails test n (λ k m. h k (omega arith)), q) (ap (λ j. Some j) (sym e))) (order i n)
 
 -- one turn of a `for` over numbers with their index
 pub at_turn : (all : List ℤ) (i k : ℕ) (v : ℤ) → (k < length (enumerate_from 0 all)) × (◌≡◌ {A = ℕ × ℤ} (i, v) (get_or (enumerate_from 0 all) k (i, v))) → (i ≡ k) × (k < length all) × (v ≡ get_or all k (pos 0))

@@ -1,4 +1,4 @@
-// The equations, one function for each.
+// The equations, one function for each. What they take is what is known by then: errors come before Θ, and Θ before the products.
 ghost use Rattle.std.specs.Prelude.{◌≡◌, ℕ, ◌*◌, ◌<◌, pos, ◌*ℤ◌, slice_index_or};
 ghost use Rattle.file.specs.File.{entry};
 ghost use Rattle.file.specs.Layout.{columns as columns_of, rows as rows_of};

@@ -25,7 +25,7 @@ pub(crate) struct Inputs<'a> {
 }
 
 // The place of the first value outside the range, currents before references.
-// A rule of the project keeps this walk a `for` over the values with their index, which names the first that fails.
+// The project fixes the form: a `for` over the values with their index, which names the first that fails.
 fn first_outside_range(currents: &[i32; 2], references: &[i32]) -> Option<usize>
     ensures { result ≡ first_outside currents.now references.now }
 {

@@ -41,7 +41,8 @@ fn solved(inputs: &Inputs, levels: &Levels) -> Period
 
 impl Period {
     // One period, from the currents at its beginning, the references of every stage and the applied positions.
-    // Values that a controller may not be handed are refused in its name.
+    // Values that a controller may not be handed are refused in its name. Currents and references come as a caller has them, and are
+    // `Inputs` once they are checked.
     pub fn of<L: Phases>(
         tables: &Tables,
         legs: &L,

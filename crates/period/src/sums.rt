@@ -39,7 +39,8 @@ pub(crate) fn rounded_dot(row: &[i32], xs: &[i32]) -> i32
     requires small { (k : ℕ) → k < length row.now → Within 540672 (slice_index_or xs.now k (pos 0)) }
     ensures { result ≡ rounded_sum (sum_to (length row.now) (λ k. slice_index_or row.now k (pos 0) *ℤ slice_index_or xs.now k (pos 0))) }
 {
-    // a `for`, since the library bounds no partial sum of a `sum` of signed numbers
+    // a `for`, since the library bounds no partial sum of a `sum` of signed numbers; the sum over a column has one of its own, since
+    // pairs from a parameter would stand in the contract as an iterator's items
     let mut sum = 0;
     for (entry, x) in row.iter().zip(xs) {
         sum = add_product(sum, *entry, *x);

@@ -59,7 +59,7 @@ fn five_stages() -> [u8; 2970] {
     })
 }
 
-// A refusal's layer, number and place.
+// A refusal's layer, number and place: by number, so that the list of rules is no witness of its own.
 type Refusal = (Layer, u8, usize);
 
 fn refused(number: u8, place: usize) -> Refusal {

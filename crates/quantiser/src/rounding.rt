@@ -16,7 +16,7 @@ pub(crate) fn limited_counts(counts: i64, table: Table) -> Result<i32, Fault>
     ensures { Answers (unless (limited table counts) (refused CountLimits 0)) (λ v. v ≡ counts) result }
 {
     match i32::try_from(counts) {
-        Ok(counts) if (table.least()..=table.greatest()).contains(&counts) => Ok(counts),
+        Ok(counts) if table.limits(counts) => Ok(counts),
         _ => Err(Rule::CountLimits.into()),
     }
 }

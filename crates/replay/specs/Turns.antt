@@ -1,5 +1,5 @@
 -- One call of a recording.
-use Rattle.std.specs.Prelude.{◌≡◌, ℕ}
+use Rattle.std.specs.Prelude.{◌≡◌}
 use Rattle.legs.specs.declared.leg.Leg.{Ghosts as LegGhosts}
 use Rattle.legs.specs.declared.measure.Measure.{Ghosts as MeasureGhosts}
 use Rattle.controller.specs.Law.{Answered}
@@ -7,16 +7,8 @@ use Rattle.controller.specs.Logbook.{step}
 use Rattle.controller.specs.Problems.{Setup}
 use Rattle.controller.specs.View.{Same, book_of}
 use Rattle.controller.specs.declared.calls.Call.{Call}
-use Rattle.controller.specs.declared.calls.Call.TheVariants.{Fire as FireCall, Withdraw as WithdrawCall}
 use Rattle.controller.specs.declared.calls.Reply.{Reply}
 use Rattle.controller.specs.declared.state.Controller.{Controller}
-use Rattle.replay.specs.declared.closing.Closing.{Closing}
-use Rattle.replay.specs.declared.closing.Closing.TheVariants.{Fire, Withdraw}
-
--- the call that closes an order of this identity
-abbrev pub closes : Closing → ℕ → Call
-closes Fire id = FireCall id
-closes Withdraw id = WithdrawCall id
 
 module _ {M A B C K : Type 0} {ghosts_m : MeasureGhosts M K} {ghosts_a : LegGhosts A} {ghosts_b : LegGhosts B} {ghosts_c : LegGhosts C} where
   -- a call was answered as the logbook says, and the logbook goes on with it

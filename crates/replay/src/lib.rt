@@ -12,8 +12,8 @@ use legs::leg::Leg;
 use legs::measure::Measure;
 use std::alloc::{AllocError, Global};
 
-mod closing;
 mod session;
+mod stray;
 mod twin;
 
 // Makes the calls one after the other on a controller from its first day, and gives each with what came of it.

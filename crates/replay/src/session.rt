@@ -2,9 +2,9 @@
 ghost use Rattle.std.specs.Prelude.{◌≡◌, false, IsSome};
 ghost use Rattle.replay.specs.Held.{HeldBy, HeldBy-prop};
 
-use crate::closing::Closing;
+use crate::stray::close_stray;
 use controller::calls::{Call, Reply};
-use controller::order::Order;
+use controller::order::{Closing, Order};
 use controller::state::Controller;
 use legs::leg::Leg;
 use legs::measure::Measure;
@@ -17,9 +17,9 @@ pub(crate) struct Session<M: Measure, A: Leg, B: Leg, C: Leg> {
 }
 
 impl<M: Measure, A: Leg, B: Leg, C: Leg> Session<M, A, B, C> {
-    ghost use Rattle.controller.specs.View.{Does, setup_of};
+    ghost use Rattle.controller.specs.View.{Does, closes, setup_of};
     ghost use Rattle.controller.specs.declared.calls.Call.TheVariants.{Plan as PlanCall};
-    ghost use Rattle.replay.specs.Turns.{Turns, closes};
+    ghost use Rattle.replay.specs.Turns.{Turns};
 
     // A controller that has no order open.
     pub(crate) fn new(controller: Controller<M, A, B, C>) -> Self
@@ -38,10 +38,8 @@ impl<M: Measure, A: Leg, B: Leg, C: Leg> Session<M, A, B, C> {
         ensures { Does self.old.controller (closes closing self.old.controller.identity) result self.new.controller }
     {
         let order = self.held.take().unwrap();
-        match closing.present(&mut self.controller, order) {
-            Ok(()) => Reply::Granted,
-            Err(_) => unreachable!(),
-        }
+        self.controller.close(closing, order).unwrap();
+        Reply::Granted
     }
 
     // Closes the order that is held, if it bears this identity, and otherwise presents a stray one.
@@ -50,7 +48,7 @@ impl<M: Measure, A: Leg, B: Leg, C: Leg> Session<M, A, B, C> {
     {
         match &self.held {
             Some(order) if order.identity() == identity => self.close_held(closing),
-            _ => closing.present_stray(&mut self.controller, identity),
+            _ => close_stray(&mut self.controller, closing, identity),
         }
     }
 

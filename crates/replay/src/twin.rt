@@ -1,4 +1,4 @@
-// Orders of other identities, made where a recording presents one.
+// Orders of other identities, made where a recording presents one: such an order can come from another controller alone.
 ghost use Rattle.std.specs.Prelude.{◌≡◌, true, None};
 ghost use Rattle.file.specs.File.{file_refusal, horizon_of};
 
@@ -7,7 +7,7 @@ use controller::state::Controller;
 use legs::squared::Squared;
 use legs::stepped::Stepped;
 
-// A table file of one stage, with ones on the generator's diagonal and zeros elsewhere.
+// A table file of one stage, with ones on the generator's diagonal, at offsets 122, 130 and 142, and zeros elsewhere.
 fn smallest_file() -> [u8; 146]
     ensures taken { file_refusal result ≡ None }
     ensures stage { horizon_of result ≡ 1 }

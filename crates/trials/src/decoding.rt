@@ -16,7 +16,8 @@ use legs::phases::Legs;
 use legs::squared::Squared;
 use legs::stepped::Stepped;
 
-// A leg of one kind or of another. The type of this name in crate `either` cannot be given a trait of a third crate.
+// A leg of one kind or of another. The type of this name in crate `either` cannot be given a trait
+// of a third crate, and `legs` takes no crate for the sake of a trial.
 #[derive(Clone, Copy)]
 enum Either<A, B> {
     First(A),

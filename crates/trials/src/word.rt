@@ -10,7 +10,7 @@ use std::{iter, mem};
 pub(crate) type Word = ArrayVec<u8, 6>;
 
 // Every list of at least one position and at most so many, in order: each first position alone, and then before each
-// list that has an entry less. Loops, since a closure of a chain cannot hand on that memory ran out.
+// list that has an entry less. Loops: a `try_for_each` in a `try_for_each` is no plainer.
 pub(crate) fn words(heap: Global, entries: usize) -> Result<Vec<Word>, AllocError> {
     let mut all = Vec::new(heap);
     for _ in 0..entries {

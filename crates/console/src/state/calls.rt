@@ -1,10 +1,10 @@
 // What is asked for, done on the controller.
 ghost use Rattle.std.specs.Prelude.{◌≡◌, ◌≤◌, true, length, take, drop};
-ghost use Rattle.controller.specs.View.{Does, book_of};
+ghost use Rattle.controller.specs.View.{Does, book_of, closes};
 ghost use Rattle.controller.specs.declared.calls.Call.TheVariants.{Plan as PlanCall};
 ghost use Rattle.controller.specs.declared.calls.Reply.TheVariants.{Granted};
 ghost use Rattle.console.specs.Lines.{Asked, asked, line_refusal};
-ghost use Rattle.console.specs.Ready.{Complete, Opened, Ready, reply_of, spending};
+ghost use Rattle.console.specs.Ready.{Complete, Opened, Ready, reply_of};
 ghost use Rattle.console.specs.Requests.{Means, asked_with};
 ghost use Rattle.console.specs.Said.{answer_text};
 ghost use Rattle.console.specs.Turns.{Performed, Turn, as_limit, lent};
@@ -12,23 +12,19 @@ ghost use Rattle.console.specs.Words.{words};
 
 use super::{Console, Npc};
 use crate::answer::Answer;
-use crate::requests::{Request, Spend, requested};
+use crate::requests::{Request, requested};
 use controller::calls::Reading;
-use controller::order::Order;
+use controller::order::{Closing, Order};
 use fault::Fault;
 
 // Spends the open order. While one is open, what the console's type says does not hold: so this function and the next take the
 // controller alone.
-fn spend(ctl: &mut Npc, order: Order, how: Spend)
+fn spend(ctl: &mut Npc, order: Order, how: Closing)
     requires open { ctl.old.pending ≡ true }
     requires bears { order.identity ≡ ctl.old.identity }
-    ensures { Does ctl.old (spending how order.identity) Granted ctl.new }
+    ensures { Does ctl.old (closes how order.identity) Granted ctl.new }
 {
-    let spent = match how {
-        Spend::Fire => ctl.fire(order),
-        Spend::Withdraw => ctl.withdraw(order),
-    };
-    spent.unwrap();
+    ctl.close(how, order).unwrap();
 }
 
 // Plans from some numbers, the currents first, and reads the plan.
@@ -50,7 +46,11 @@ fn limit_of(n: i32) -> u32
 
 impl Console<'_> {
     // Plans, and spends the order.
-    fn plan_and_spend(&mut self, numbers: &[i32], how: Spend) -> Result<Option<Reading<u64>>, Fault>
+    fn plan_and_spend(
+        &mut self,
+        numbers: &[i32],
+        how: Closing,
+    ) -> Result<Option<Reading<u64>>, Fault>
         requires { 2 ≤ length numbers.now }
         ensures done { Performed self.old.file.now (asked_with how numbers.now) (book_of self.old.controller) (reply_of result) (book_of self.new.controller) }
         ensures file { self.new.file ≡ self.old.file }

@@ -8,11 +8,9 @@ use super::Console;
 use crate::printing::{ROOM, put_answer};
 use controller::state::Controller;
 use fault::{Fault, Rule};
+use file::stored::MOST_BYTES;
 use legs::squared::Squared;
 use legs::stepped::Stepped;
-
-// The most bytes of a table file that are taken.
-const MOST_BYTES: usize = 4096;
 
 // The front of a table file.
 fn front(file: &[u8]) -> &[u8]

@@ -20,7 +20,7 @@ fn word_len(bytes: &[u8]) -> usize
     bytes.iter().take_while(|b| **b != b' ').count()
 }
 
-// The number that one to seven digits write.
+// The number that one to seven digits write. By hand, since `parse` takes a plus sign and any number of digits.
 fn unsigned(digits: &[u8]) -> Option<u32>
     ensures is { result ≡ magnitude digits.now }
     ensures small { IfSome result (λ v. v < 10000000) }
@@ -45,7 +45,7 @@ fn number(bytes: &[u8]) -> Option<i32>
     }
 }
 
-// The phase that a word names, if it names one.
+// The phase that a word names, if it names one, as the number that the controller takes.
 pub(crate) fn phase(bytes: &[u8]) -> Option<u8>
     ensures { result ≡ phase_of bytes.now }
 {
@@ -83,7 +83,8 @@ impl<'a> Words<'a> {
         Words { line, at: 0 }
     }
 
-    // The next word, which is then behind. It is no Iterator's, since the end of the line is told too, with its column.
+    // The next word, which is then behind. It is no Iterator's: the end of a line
+    // is a token too, with its column.
     pub(crate) fn next(&mut self) -> Token<'a>
         ensures first { First (end_column self.old) (left self.old) result }
         ensures left { left self.new ≡ others (left self.old) }

@@ -4,12 +4,12 @@ ghost use Rattle.std.specs.Option.{option_map};
 ghost use Rattle.controller.specs.Book.{plan_entries};
 ghost use Rattle.fault.specs.Refusals.{Answers};
 ghost use Rattle.controller.specs.Logbook.{first_day, first_stage, open_refusal, order_refusal};
-ghost use Rattle.controller.specs.View.{Bears, Does, HandsBack, Plans, Redeems, book_of, entry_at, plan_reply, reading_of, reply, reply_back, settings_of, setup_of};
+ghost use Rattle.controller.specs.View.{Bears, Does, HandsBack, Plans, Redeems, book_of, closes, entry_at, plan_reply, reading_of, reply, reply_back, settings_of, setup_of};
 ghost use Rattle.controller.specs.declared.calls.Call.TheVariants.{Load, Limit, Bar, Free, Plan as PlanCall, Fire, Withdraw};
 
 use super::{Controller, Settings};
 use crate::calls::Reading;
-use crate::order::{Denied, Order};
+use crate::order::{Closing, Denied, Order};
 use crate::sequence::Plan;
 use decoder::Mark;
 use fault::{Fault, Rule};
@@ -180,6 +180,17 @@ impl<M: Measure, A: Leg, B: Leg, C: Leg> Controller<M, A, B, C> {
         // what is applied stays, and so does the plan
         self.pending = false;
         Ok(())
+    }
+
+    // Fires an order, or withdraws it.
+    pub fn close(&mut self, closing: Closing, order: Order) -> Result<(), Denied>
+        ensures does { Does self.old (closes closing order.identity) (reply_back result) self.new }
+        ensures back { HandsBack order result }
+    {
+        match closing {
+            Closing::Fire => self.fire(order),
+            Closing::Withdraw => self.withdraw(order),
+        }
     }
 
     // Entry i of the last plan, counted from 1, where there is one.

@@ -35,7 +35,7 @@ fn read_header(bytes: &[u8]) -> Result<Sheet<'_>, Fault>
     if u16::from_le_bytes([*low, *high]) != VERSION {
         return Err(Rule::FileVersion.at(3));
     }
-    let Some(horizon) = Horizon::of(*stages as usize) else {
+    let Some(horizon) = Horizon::of(usize::from(*stages)) else {
         return Err(Rule::FileHorizon.at(5));
     };
     if bytes.len() != HEADER_BYTES + ENTRY_BYTES * count(horizon) {

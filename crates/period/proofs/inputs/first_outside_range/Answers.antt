@@ -6,7 +6,8 @@ use Rattle.std.proofs.lemmas.Iterator.Consumers.{YieldsList-end, YieldsList-from
 use Rattle.std.proofs.lemmas.List.{length_push}
 use Rattle.std.proofs.lemmas.List.FromFn.{length-enumerate_from}
 use Rattle.period.specs.Inputs.{allowed, allowed_at}
-use Rattle.period.proofs.Outside.{at_turn, fails_first, none_fails}
+use Rattle.legs.proofs.Lowest.{lowest_found, none_found}
+use Rattle.period.proofs.Outside.{at_turn}
 use Rattle.period.proofs.inputs.first_outside_range.Goals as goal
 
 pub loop-place-preserved : goal.loop-place-preserved
@@ -33,7 +34,7 @@ returns-then-unsigned_abs-gt-GREATEST c =
     let large : 8192 < nat_abs v.now = omega arith in
     let road = YieldsList-from_enumerate (YieldsList-from_chain (YieldsList-from_slice i cc) (YieldsList-from_slice y cc) (cc) (cc)) (cc) in
     let turn = at_turn (i ++ y) p (length c.loop-place.yielded) v.now (YieldsList-turn road c.loop-place.yielded c.loop-place.place-iterator c.loop-place.yielded_by c.next.result c.next.new.self (p, v) c.in-Some.is c.next.ensures.steps) in
-    rw turn.0 (sym (fails_first (allowed_at i y) (length (i ++ y)) (length c.loop-place.yielded) turn.1 c.loop-place.invariant (ap allowed (sym turn.2) ∙ lt-leb (nat_abs v.now) 8192 large)))
+    rw turn.0 (sym (lowest_found (allowed_at i y) (length c.loop-place.yielded) (length (i ++ y)) c.loop-place.invariant (ap allowed (sym turn.2) ∙ lt-leb (nat_abs v.now) 8192 large) turn.1))
 
 pub returns : goal.returns
 returns c =
@@ -42,4 +43,4 @@ returns c =
     let road = YieldsList-from_enumerate (YieldsList-from_chain (YieldsList-from_slice i cc) (YieldsList-from_slice y cc) (cc) (cc)) (cc) in
     let end = YieldsList-end road c.loop-place.yielded c.loop-place.place-iterator c.loop-place.yielded_by c.next.result c.next.new.self c.in-None.is c.next.ensures.steps in
     let all : length c.loop-place.yielded ≡ length (i ++ y) = end.1 ∙ length-enumerate_from 0 (i ++ y) in
-    sym (none_fails (allowed_at i y) (length (i ++ y)) (λ k lt. c.loop-place.invariant k (subst (λ n. k < n) (sym all) lt)))
+    sym (none_found (allowed_at i y) (length (i ++ y)) (λ k lt. c.loop-place.invariant k (subst (λ n. k < n) (sym all) lt)))

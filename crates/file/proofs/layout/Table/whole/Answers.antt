@@ -3,9 +3,10 @@ use Rattle.file.proofs.Sizes.{count_bound}
 use Rattle.file.proofs.Walk.{behind_others}
 use Rattle.file.proofs.layout.Table.whole.Goals as goal
 
-pub returns-in_default : goal.returns-in_default
-returns-in_default c =
+pub returns-in-Some : goal.returns-in-Some
+returns-in-Some c =
     let h = c.args.horizon in
-    let b = behind_others c.args.self c.following.result h.stages c.in_default.not-Generator c.following.ensures in
+    let f = c.in-Some.ensures in
+    let b = behind_others c.args.self c.in-Some.next h.stages f.0 f.1 in
     let m = count_bound h.stages h.some h.few in
     record { start = c.ahead-start.ensures; end = omega arith; inside = omega arith; bound = omega arith }
