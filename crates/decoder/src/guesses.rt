@@ -2,7 +2,7 @@
 ghost use Rattle.std.specs.Prelude.{◌≡◌, ◌<◌, length, take};
 ghost use Rattle.decoder.specs.Sequences.{leg_of, cost_to};
 ghost use Rattle.decoder.specs.Guesses.{distance, distance_at, moved_on};
-ghost use Rattle.decoder.specs.Computed.{nearest_below, or_zero, rounded, may_be, permitted_to};
+ghost use Rattle.decoder.specs.Computed.{nearer, nearest_below, or_zero, rounded, may_be, permitted_to};
 ghost use Rattle.decoder.specs.Outcome.{Started};
 ghost use Rattle.decoder.specs.Tasks.{Holds, posed_by};
 
@@ -33,6 +33,17 @@ impl<L: Phases, M: Measure> Problem<'_, L, M> {
         gap(self.task.unconstrained[j], self.level(j, p))
     }
 
+    // The nearer of a position found before, if any, and a higher one; where they are as near, the one found before.
+    fn nearer(&self, j: usize, found: Option<u8>, p: u8) -> Option<u8>
+        requires { j < 15 }
+        ensures { result ≡ nearer (posed_by L.Phases M.Measure self.now) j found p }
+    {
+        match found {
+            Some(q) if self.distance(j, q) <= self.distance(j, p) => Some(q),
+            _ => Some(p),
+        }
+    }
+
     // The nearest position that entry j can move to, and of those as near the lowest.
     fn nearest(&self, j: usize, from: u8) -> u8
         requires { j < 15 }
@@ -40,7 +51,7 @@ impl<L: Phases, M: Measure> Problem<'_, L, M> {
     {
         (0..self.positions(j))
             .filter(|&p| self.permits(j, from, p))
-            .min_by_key(|&p| self.distance(j, p))
+            .fold(None, |found, p| self.nearer(j, found, p))
             .unwrap_or(0)
     }
 

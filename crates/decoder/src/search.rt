@@ -1,4 +1,7 @@
 // The tree search.
+ghost use Rattle.std.specs.Prelude.{◌≡◌};
+ghost use Rattle.std.specs.Ordering.{is_gt};
+ghost use Rattle.legs.specs.Measure.{Reached};
 ghost use Rattle.decoder.specs.Outcome.{AsComputed, Started};
 ghost use Rattle.decoder.specs.Tasks.{posed_by, ZeroPast};
 
@@ -9,10 +12,20 @@ use legs::measure::Measure;
 use legs::phases::Phases;
 
 impl<L: Phases, M: Measure> Problem<'_, L, M> {
+    // Whether a costs more than b. A node that costs as much as the best so far is still entered. A function of its own, so that an
+    // edit of this one comparison is held against a contract.
+    fn dearer(&self, a: M::Cost, b: M::Cost) -> bool
+        requires first { Reached (M.Measure.meaning self.now.measure.now) 15 a }
+        requires second { Reached (M.Measure.meaning self.now.measure.now) 15 b }
+        ensures { result ≡ is_gt ((M.Measure.meaning self.now.measure.now).compare a b) }
+    {
+        self.measure.compare(a, b).is_gt()
+    }
+
     // Visits the due nodes in order, from a start of known cost, until none is left or the limit is met.
     // Level j of the search tries positions for entry j; `costs` and `left` keep, for each level, the cost of the rows above
     // and what the entries above leave of its row's target; they are arrays of their own, since `at` is copied whole and the
-    // invariant speaks of each alone. A node that costs as much as the best so far is still entered.
+    // invariant speaks of each alone.
     pub(crate) fn search_from(&self, start: Priced<M::Cost>, limit: u32) -> Answer<M::Cost>
         requires { Started (posed_by L.Phases M.Measure self.now) start }
         ensures computed { AsComputed (posed_by L.Phases M.Measure self.now) limit result }
@@ -62,7 +75,7 @@ impl<L: Phases, M: Measure> Problem<'_, L, M> {
             let p = at[j];
             let row = self.difference(left[j], j, p);
             let cost = self.measure.after(costs[j], row);
-            if self.measure.compare(cost, best_cost).is_gt() {
+            if self.dearer(cost, best_cost) {
                 at[j] = p + 1;
             } else if j + 1 == n {
                 best = at;

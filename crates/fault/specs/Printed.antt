@@ -2,7 +2,6 @@
 use Rattle.std.specs.Prelude.{ℕ, List, ◌++◌, codes, decimal}
 use Rattle.fault.specs.declared.Fault.{Fault}
 use Rattle.fault.specs.declared.Layer.{Layer}
-use Rattle.fault.specs.Rules.{layer_of, number_of}
 use Rattle.fault.specs.declared.Layer.TheVariants.{File, Leg, Controller, Quantiser, Console}
 
 abbrev pub layer_word : Layer → List ℕ
@@ -14,4 +13,4 @@ layer_word Console = codes "console"
 
 -- "no", the layer, the number and the place, parted by single spaces
 abbrev pub refusal_line : Fault → List ℕ
-refusal_line f = codes "no " ++ (layer_word (layer_of f.rule) ++ (codes " " ++ (decimal (number_of f.rule) ++ (codes " " ++ decimal f.place))))
+refusal_line f = codes "no " ++ (layer_word f.layer ++ (codes " " ++ (decimal f.number ++ (codes " " ++ decimal f.place))))

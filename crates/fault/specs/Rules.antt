@@ -74,4 +74,4 @@ layer_of LineLength = Console
 
 -- the refusal by a rule, at a place
 abbrev pub refused : Rule → ℕ → Fault
-refused rule place = record { rule = rule; place = place }
+refused rule place = record { layer = layer_of rule; number = number_of rule; place = place }

@@ -70,6 +70,40 @@ pub enum Rule {
 }
 
 impl Rule {
+    // All of them, in the order of their numbers.
+    pub const ALL: [Rule; 30] = [
+        Rule::HeaderBytes,
+        Rule::FileMark,
+        Rule::FileVersion,
+        Rule::FileHorizon,
+        Rule::FileLength,
+        Rule::EntryLimits,
+        Rule::PositiveDiagonal,
+        Rule::FileBuffer,
+        Rule::LevelCount,
+        Rule::RisingLevels,
+        Rule::HoldingMasks,
+        Rule::RestPosition,
+        Rule::LegReach,
+        Rule::LegStride,
+        Rule::NoOpenOrder,
+        Rule::LoadedTables,
+        Rule::NodeLimit,
+        Rule::PhaseNumber,
+        Rule::InputRange,
+        Rule::ReferenceCount,
+        Rule::OwnOrder,
+        Rule::OpenOrder,
+        Rule::FiniteNumber,
+        Rule::CountLimits,
+        Rule::CommandWord,
+        Rule::PhaseLetter,
+        Rule::NumberWord,
+        Rule::WordCount,
+        Rule::AnswerBuffer,
+        Rule::LineLength,
+    ];
+
     // The layer that the rule is one of.
     pub fn layer(self) -> Layer
         ensures { result ≡ layer_of self }
@@ -118,7 +152,11 @@ impl Rule {
     pub fn at(self, place: usize) -> Fault
         ensures { result ≡ refused self place }
     {
-        Fault { rule: self, place }
+        Fault {
+            layer: self.layer(),
+            number: self.number(),
+            place,
+        }
     }
 }
 

@@ -184,6 +184,10 @@ impl Cell {
         ensures listed { IfSome result (λ x. (d : Cell) → slice_index_or (cells_of horizon.stages) entry d ≡ x) }
         ensures counted { length (cells_of horizon.stages) ≡ count_of horizon.stages }
     {
+        // `nth` would walk all cells before it finds that there is no such entry
+        if entry >= count(horizon) {
+            return None;
+        }
         Cells::of(horizon).nth(entry)
     }
 }

@@ -6,13 +6,15 @@ use crate::horizon::Horizon;
 use crate::layout::{Cell, Table};
 use std::ops::Range;
 
-// A row that its table has.
+// A row that its table has. How many columns it has is kept beside it, since a walk over a file's cells asks at every step.
 #[derive(Clone, Copy)]
 pub(crate) struct Row {
     table: Table,
     horizon: Horizon,
     row: usize,
+    columns: usize,
     ghost there: { row < rows_of table horizon.stages },
+    ghost wide: { columns ≡ columns_of table horizon.stages row },
 }
 
 // The place of an entry: a column that its row has.
@@ -39,10 +41,17 @@ impl Row {
         if row >= table.rows(horizon) {
             return None;
         }
+        let columns = match table {
+            Table::Weight => 1,
+            Table::Gamma => 2,
+            Table::Upsilon | Table::Unconstrained | Table::Target => 3 * horizon.stages(),
+            Table::Generator => row + 1,
+        };
         Some(Row {
             table,
             horizon,
             row,
+            columns,
         })
     }
 
@@ -50,12 +59,7 @@ impl Row {
     pub(crate) fn columns(self) -> usize
         ensures { result ≡ columns_of self.table self.horizon.stages self.row }
     {
-        match self.table {
-            Table::Weight => 1,
-            Table::Gamma => 2,
-            Table::Upsilon | Table::Unconstrained | Table::Target => 3 * self.horizon.stages(),
-            Table::Generator => self.row + 1,
-        }
+        self.columns
     }
 
     // How many entries its table has above it.
@@ -87,6 +91,7 @@ impl Row {
             table,
             horizon,
             row,
+            ..
         } = self;
         if row + 1 < table.rows(horizon) {
             return Row::of(table, horizon, row + 1);
@@ -129,13 +134,18 @@ impl Place {
     }
 
     // The place of the entry behind, where there is one.
+    #[inline(always)]
     fn next(self) -> Option<Place>
         ensures { MatchOption result (entry_of self + 1 ≡ count_of self.row.horizon.stages) (λ q. (q.row.horizon ≡ self.row.horizon) × (entry_of q ≡ entry_of self + 1)) }
     {
-        if self.column + 1 < self.row.columns() {
-            return self.row.place(self.column + 1);
+        let Place { row, column } = self;
+        if column + 1 < row.columns() {
+            return Some(Place {
+                row,
+                column: column + 1,
+            });
         }
-        self.row.next()?.place(0)
+        row.next()?.place(0)
     }
 }
 
@@ -163,6 +173,8 @@ impl Iterator for Cells {
 
     ghost remaining = { item_count rest_of };
 
+    // Inlined, since `read` asks for each cell of a file by it.
+    #[inline(always)]
     fn next(&mut self) -> Option<Cell> {
         let place = self.next?;
         self.next = place.next();

@@ -58,7 +58,7 @@ fn show_entry(rt: &HostRuntime, bytes: &[u8], at: usize, cell: Cell) -> io::Resu
 }
 
 fn show_refusal(rt: &HostRuntime, bytes: &[u8], fault: Fault) -> io::Result<()> {
-    let why = reason(fault.rule);
+    let why = reason(fault);
     let len = bytes.len();
     println!(rt; "{NAME}: {fault}: {why}")?;
     println!(rt; "{len} bytes were read")?;
@@ -85,7 +85,7 @@ fn show_counts(rt: &HostRuntime, table: Table, text: &str) -> io::Result<()> {
     match entry.quantise(table) {
         Ok(counts) => println!(rt; "{text} for {table}: {counts} counts"),
         Err(fault) => {
-            let why = reason(fault.rule);
+            let why = reason(fault);
             println!(rt; "{text} for {table}: {fault}: {why}")
         }
     }

@@ -44,7 +44,8 @@ impl Extremes {
 pub fn refused_cell(bytes: &[u8], fault: Fault) -> Option<Cell>
     ensures { IfSome result (λ x. InTable (horizon_of bytes.now) x × (offset (place (horizon_of bytes.now) x) ≡ fault.place)) }
 {
-    if fault.rule != Rule::EntryLimits && fault.rule != Rule::PositiveDiagonal {
+    let number = fault.number;
+    if number != Rule::EntryLimits.number() && number != Rule::PositiveDiagonal.number() {
         return None;
     }
     let stages = bytes.get(5)?;
@@ -74,7 +75,10 @@ pub(crate) fn entry_of(text: &str) -> Option<Entry> {
 }
 
 // What a refusal of the file or the quantiser means.
-pub(crate) fn reason(rule: Rule) -> &'static str {
+pub(crate) fn reason(fault: Fault) -> &'static str {
+    let Some(rule) = fault.rule() else {
+        return "a refusal of another kind";
+    };
     match rule {
         Rule::HeaderBytes => "fewer than 6 bytes, so there is no whole header",
         Rule::FileMark => "the file does not begin with the letters SDT",

@@ -6,7 +6,7 @@ ghost use Rattle.controller.specs.declared.calls.Reply.TheVariants.{Granted};
 ghost use Rattle.console.specs.Lines.{Asked, asked, line_refusal};
 ghost use Rattle.console.specs.Ready.{Complete, Opened, Ready, reply_of};
 ghost use Rattle.console.specs.Requests.{Means, asked_with};
-ghost use Rattle.console.specs.Said.{answer_text};
+ghost use Rattle.console.specs.Said.{Responds, answer_text, said};
 ghost use Rattle.console.specs.Turns.{Performed, Turn, as_limit, lent};
 ghost use Rattle.console.specs.Words.{words};
 
@@ -77,6 +77,7 @@ impl Console<'_> {
 
     // Does what a line asks for.
     pub(super) fn respond(&mut self, line: &[u8]) -> Result<Answer, Fault>
+        ensures responds { Responds (line_refusal line.now) (asked (words line.now)) self.old.file.now self.old.controller (said result) self.new.controller }
         ensures turn { Turn (line_refusal line.now) (asked (words line.now)) self.old.file.now (book_of self.old.controller) (answer_text result) (book_of self.new.controller) }
         ensures file { self.new.file ≡ self.old.file }
     {

@@ -16,7 +16,11 @@ use legs::stepped::Stepped;
 fn front(file: &[u8]) -> &[u8]
     ensures { result.now ≡ take 4096 file.now }
 {
-    &file[..MOST_BYTES.min(file.len())]
+    if file.len() > MOST_BYTES {
+        &file[0..MOST_BYTES]
+    } else {
+        file
+    }
 }
 
 impl<'a> Console<'a> {

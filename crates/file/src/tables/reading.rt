@@ -57,7 +57,8 @@ fn read_entry(bytes: &[u8], cell: Cell, at: usize) -> Result<i32, Fault>
     requires { at + 4 ≤ length bytes.now }
     ensures { Answers (entry_refusal cell at (word bytes.now at)) (λ z. z ≡ word bytes.now at) result }
 {
-    let value = word_at(bytes, at).unwrap();
+    // by index, and not by `word_at`, which would ask once more whether the bytes are there
+    let value = i32::from_le_bytes([bytes[at], bytes[at + 1], bytes[at + 2], bytes[at + 3]]);
     if !cell.table.limits(value) {
         return Err(Rule::EntryLimits.at(at));
     }

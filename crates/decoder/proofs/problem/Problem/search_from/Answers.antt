@@ -1,4 +1,4 @@
-use Rattle.std.proofs.Common.{get_or, replicate, pos, sym, ap, ◌∙◌, subst, arith}
+use Rattle.std.proofs.Common.{get_or, replicate, pos, refl, sym, ap, ◌∙◌, subst, arith}
 use Rattle.legs.specs.Measure.{Small}
 use Rattle.decoder.specs.Sequences.{cost}
 use Rattle.decoder.specs.Tasks.{posed_by}
@@ -34,32 +34,32 @@ after-cost-requires g c =
     let o = sound g.met.L.Phases.lawful g.met.M.Measure.lawful c.args.self.now in
     record { reached = reached_here o c.back.invariant c.index-costs-j.result; small = row_small o c.back.invariant (row_is o c.back.invariant c.difference-row.ensures) }
 
-pub compare-requires : goal.compare-requires
-compare-requires g c =
+pub dearer-requires : goal.dearer-requires
+dearer-requires g c =
     let o = sound g.met.L.Phases.lawful g.met.M.Measure.lawful c.args.self.now in
     let k = priced o c.back.invariant c.index-costs-j.result (row_is o c.back.invariant c.difference-row.ensures) c.after-cost.ensures in
     record { first = reached_next o c.back.invariant k; second = reached_best o c.back.invariant }
 
-pub search-preserved-then-is_gt : goal.search-preserved-then-is_gt
-search-preserved-then-is_gt g c =
+pub search-preserved-then-dearer : goal.search-preserved-then-dearer
+search-preserved-then-dearer g c =
     let o = sound g.met.L.Phases.lawful g.met.M.Measure.lawful c.args.self.now in
     let k = priced o c.back.invariant c.index-costs-j.result (row_is o c.back.invariant c.difference-row.ensures) c.after-cost.ensures in
     let w = open_by o c.back.invariant c.positions.ensures c.if-p-positions.true c.origin.ensures c.permits.ensures c.if-permits.true in
-    do_over o c.back.invariant w c.if-count-limit.false k c.compare.ensures c.is_gt.ensures c.if-is_gt.true
+    do_over o c.back.invariant w c.if-count-limit.false k refl c.dearer.ensures c.if-dearer.true
 
 pub search-preserved-then-j-n : goal.search-preserved-then-j-n
 search-preserved-then-j-n g c =
     let o = sound g.met.L.Phases.lawful g.met.M.Measure.lawful c.args.self.now in
     let k = priced o c.back.invariant c.index-costs-j.result (row_is o c.back.invariant c.difference-row.ensures) c.after-cost.ensures in
     let w = open_by o c.back.invariant c.positions.ensures c.if-p-positions.true c.origin.ensures c.permits.ensures c.if-permits.true in
-    do_full o c.back.invariant w c.if-count-limit.false k c.compare.ensures c.is_gt.ensures c.if-is_gt.false (c.if-j-n.true ∙ c.entries-n.ensures.is)
+    do_full o c.back.invariant w c.if-count-limit.false k refl c.dearer.ensures c.if-dearer.false (c.if-j-n.true ∙ c.entries-n.ensures.is)
 
 pub search-preserved : goal.search-preserved
 search-preserved g c =
     let o = sound g.met.L.Phases.lawful g.met.M.Measure.lawful c.args.self.now in
     let k = priced o c.back.invariant c.index-costs-j.result (row_is o c.back.invariant c.difference-row.ensures) c.after-cost.ensures in
     let w = open_by o c.back.invariant c.positions.ensures c.if-p-positions.true c.origin.ensures c.permits.ensures c.if-permits.true in
-    do_down o c.back.invariant w c.if-count-limit.false k c.compare.ensures c.is_gt.ensures c.if-is_gt.false (λ e. c.if-j-n.false (e ∙ sym c.entries-n.ensures.is)) c.remainder-else-j-n.ensures
+    do_down o c.back.invariant w c.if-count-limit.false k refl c.dearer.ensures c.if-dearer.false (λ e. c.if-j-n.false (e ∙ sym c.entries-n.ensures.is)) c.remainder-else-j-n.ensures
 
 pub returns-then-count-limit-clause-computed : goal.returns-then-count-limit-clause-computed
 returns-then-count-limit-clause-computed g c =
