@@ -5,7 +5,7 @@ use Rattle.std.proofs.lemmas.List.FromFn.{get_or-map-range_with_len, length-map-
 use Rattle.std.proofs.lemmas.List.{drop-take, ext_get_or, get_or-drop, get_or-take, length-drop, length-take-le, take-take}
 use Rattle.file.specs.File.{entry}
 use Rattle.file.specs.Layout.{Limited, rows, columns, above, ahead, count, cell, InTable, place}
-use Rattle.file.specs.Places.{cell_of, end_of, entry_of}
+use Rattle.file.specs.Places.{end_of, entry_of}
 use Rattle.file.specs.Tables.{data_of}
 use Rattle.file.specs.declared.horizon.Horizon.{Horizon}
 use Rattle.file.specs.declared.layout.Cell.{Cell}
@@ -34,9 +34,10 @@ entry_bound t x i h e = subst (λ (k : ℕ). Limited x.table (get_or t.entries k
 pub place_bound : (t : Tables) (p : Place) (i : ℕ) (s : Table) → p.row.table ≡ s → p.row.horizon ≡ t.horizon → i ≡ entry_of p → Limited s (get_or t.entries i (pos 0))
 place_bound t p i s e f g =
     subst (λ (u : Table). Limited u (get_or t.entries i (pos 0))) e
-    (entry_bound t (cell_of p) i
-    (subst (λ (h : Horizon). InTable h.stages (cell_of p)) f (p.row.there, p.within))
-    (subst (λ (h : Horizon). i ≡ place h.stages (cell_of p)) f g))
+    (let x = cell p.row.table p.row.row p.column in
+    entry_bound t x i
+    (subst (λ (h : Horizon). InTable h.stages x) f (p.row.there, p.within))
+    (subst (λ (h : Horizon). i ≡ place h.stages x) f g))
 
 -- a row of the tables, read from the array
 module _ (t : Tables) (s : Table) (r start m : ℕ) (h : r < rows s t.horizon.stages) (e : start ≡ ahead s t.horizon.stages + above s t.horizon.stages r) (f : m ≡ columns s t.horizon.stages r) where

@@ -6,7 +6,7 @@ ghost use Rattle.file.specs.Layout.{CellOf, InTable, count as count_of, followin
 
 use crate::header::{ENTRY_BYTES, HEADER_BYTES};
 use crate::horizon::Horizon;
-use crate::rows::Cells;
+use crate::rows::Row;
 use std::fmt;
 use std::ops::Range;
 
@@ -184,11 +184,15 @@ impl Cell {
         ensures listed { IfSome result (λ x. (d : Cell) → slice_index_or (cells_of horizon.stages) entry d ≡ x) }
         ensures counted { length (cells_of horizon.stages) ≡ count_of horizon.stages }
     {
-        // `nth` would walk all cells before it finds that there is no such entry
+        // the walk would go through all rows before it finds that there is no such entry
         if entry >= count(horizon) {
             return None;
         }
-        Cells::of(horizon).nth(entry)
+        let mut row = Row::of(Table::Weight, horizon, 0)?;
+        while row.span().end <= entry {
+            row = row.next()?;
+        }
+        Some(row.cell(entry - row.span().start))
     }
 }
 

@@ -1,20 +1,18 @@
-// Rows and cells that the tables of a horizon have.
+// Rows that the tables of a horizon have, and places in them.
 ghost use Rattle.std.specs.Prelude.{◌≡◌, ◌+◌, ◌<◌, ◌≤◌, MatchOption};
-ghost use Rattle.file.specs.Layout.{columns as columns_of, count as count_of, above as above_of, rows as rows_of};
+ghost use Rattle.file.specs.Layout.{columns as columns_of, cell as cell_at, count as count_of, above as above_of, rows as rows_of};
 
 use crate::horizon::Horizon;
 use crate::layout::{Cell, Table};
 use std::ops::Range;
 
-// A row that its table has. How many columns it has is kept beside it, since a walk over a file's cells asks at every step.
+// A row that its table has.
 #[derive(Clone, Copy)]
 pub(crate) struct Row {
     table: Table,
     horizon: Horizon,
     row: usize,
-    columns: usize,
     ghost there: { row < rows_of table horizon.stages },
-    ghost wide: { columns ≡ columns_of table horizon.stages row },
 }
 
 // The place of an entry: a column that its row has.
@@ -23,12 +21,6 @@ pub(crate) struct Place {
     row: Row,
     column: usize,
     ghost within: { column < columns_of row.table row.horizon.stages row.row },
-}
-
-// The cells of a file's entries, in their order.
-#[derive(Drop)]
-pub(crate) struct Cells {
-    next: Option<Place>,
 }
 
 impl Row {
@@ -41,17 +33,10 @@ impl Row {
         if row >= table.rows(horizon) {
             return None;
         }
-        let columns = match table {
-            Table::Weight => 1,
-            Table::Gamma => 2,
-            Table::Upsilon | Table::Unconstrained | Table::Target => 3 * horizon.stages(),
-            Table::Generator => row + 1,
-        };
         Some(Row {
             table,
             horizon,
             row,
-            columns,
         })
     }
 
@@ -59,7 +44,12 @@ impl Row {
     pub(crate) fn columns(self) -> usize
         ensures { result ≡ columns_of self.table self.horizon.stages self.row }
     {
-        self.columns
+        match self.table {
+            Table::Weight => 1,
+            Table::Gamma => 2,
+            Table::Upsilon | Table::Unconstrained | Table::Target => 3 * self.horizon.stages(),
+            Table::Generator => self.row + 1,
+        }
     }
 
     // How many entries its table has above it.
@@ -83,15 +73,25 @@ impl Row {
         start..start + self.columns()
     }
 
+    // The cell of one of its columns.
+    pub(crate) fn cell(self, column: usize) -> Cell
+        ensures { result ≡ cell_at self.table self.row column }
+    {
+        Cell {
+            table: self.table,
+            row: self.row,
+            column,
+        }
+    }
+
     // The row whose entries stand behind this one's, where there is one.
-    fn next(self) -> Option<Row>
+    pub(crate) fn next(self) -> Option<Row>
         ensures { MatchOption result (end_of self ≡ count_of self.horizon.stages) (λ r. (r.horizon ≡ self.horizon) × (start_of r ≡ end_of self)) }
     {
         let Row {
             table,
             horizon,
             row,
-            ..
         } = self;
         if row + 1 < table.rows(horizon) {
             return Row::of(table, horizon, row + 1);
@@ -111,18 +111,7 @@ impl Row {
 }
 
 impl Place {
-    ghost use Rattle.file.specs.Places.{cell_of, entry_of};
-
-    // Its cell.
-    fn cell(self) -> Cell
-        ensures { result ≡ cell_of self }
-    {
-        Cell {
-            table: self.row.table,
-            row: self.row.row,
-            column: self.column,
-        }
-    }
+    ghost use Rattle.file.specs.Places.{entry_of};
 
     // Which entry of the file stands there.
     pub(crate) fn entry(self) -> usize
@@ -131,53 +120,5 @@ impl Place {
         ensures bound { result < 741 }
     {
         self.row.span().start + self.column
-    }
-
-    // The place of the entry behind, where there is one.
-    #[inline(always)]
-    fn next(self) -> Option<Place>
-        ensures { MatchOption result (entry_of self + 1 ≡ count_of self.row.horizon.stages) (λ q. (q.row.horizon ≡ self.row.horizon) × (entry_of q ≡ entry_of self + 1)) }
-    {
-        let Place { row, column } = self;
-        if column + 1 < row.columns() {
-            return Some(Place {
-                row,
-                column: column + 1,
-            });
-        }
-        row.next()?.place(0)
-    }
-}
-
-impl Cells {
-    ghost use Rattle.file.specs.Places.{rest_of};
-    ghost use Rattle.file.specs.Layout.{cells as cells_of};
-
-    // All cells of a file.
-    pub(crate) fn of(horizon: Horizon) -> Cells
-        ensures { rest_of result ≡ cells_of horizon.stages }
-    {
-        Cells {
-            next: Row::of(Table::Weight, horizon, 0).and_then(|row| row.place(0)),
-        }
-    }
-}
-
-impl Iterator for Cells {
-    ghost use Rattle.std.specs.Iterator.{YieldsFirst, item_count};
-    ghost use Rattle.file.specs.Places.{rest_of};
-
-    type Item = Cell;
-
-    ghost next_gives = { YieldsFirst rest_of };
-
-    ghost remaining = { item_count rest_of };
-
-    // Inlined, since `read` asks for each cell of a file by it.
-    #[inline(always)]
-    fn next(&mut self) -> Option<Cell> {
-        let place = self.next?;
-        self.next = place.next();
-        Some(place.cell())
     }
 }

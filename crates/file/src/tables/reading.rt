@@ -9,8 +9,8 @@ ghost use Rattle.file.specs.Tables.{data_of};
 use super::{MOST_ENTRIES, Tables};
 use crate::header::{ENTRY_BYTES, HEADER_BYTES, LETTERS, VERSION};
 use crate::horizon::Horizon;
-use crate::layout::{Cell, count};
-use crate::rows::Cells;
+use crate::layout::{Cell, Table, count};
+use crate::rows::Row;
 use fault::{Fault, Rule};
 
 // The bytes of a file whose header and length are in order.
@@ -69,14 +69,21 @@ fn read_entry(bytes: &[u8], cell: Cell, at: usize) -> Result<i32, Fault>
 }
 
 impl Sheet<'_> {
-    // Its entries.
+    // Its entries, row by row, so that from one entry to the next only the column changes.
     fn entries(self) -> Result<[i32; MOST_ENTRIES], Fault>
         ensures { Answers (entries_refusal (cells self.entry.horizon.stages) self.entry.bytes.now 6) (λ es. Entered self.entry.bytes.now self.entry.horizon.stages es (count_of self.entry.horizon.stages)) result }
     {
         let mut entries = [0; MOST_ENTRIES];
-        // Written by index: of what goes through a zipped `iter_mut`, a proof knows nothing.
-        for (k, cell) in Cells::of(self.horizon).enumerate() {
-            entries[k] = read_entry(self.bytes, cell, HEADER_BYTES + ENTRY_BYTES * k)?;
+        let mut next = Row::of(Table::Weight, self.horizon, 0);
+        while let Some(row) = next {
+            let start = row.span().start;
+            // Written by index: of what goes through a zipped `iter_mut`, a proof knows nothing.
+            for column in 0..row.columns() {
+                let k = start + column;
+                let at = HEADER_BYTES + ENTRY_BYTES * k;
+                entries[k] = read_entry(self.bytes, row.cell(column), at)?;
+            }
+            next = row.next();
         }
         Ok(entries)
     }
